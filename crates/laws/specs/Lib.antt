@@ -1,0 +1,5 @@
+pub mod Tests
+pub mod Below
+pub mod Splice
+pub mod Numbered
+pub mod Settled

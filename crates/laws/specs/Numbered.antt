@@ -1,0 +1,23 @@
+-- What a call comes back with, as document 01 numbers it. Each answer's enum has one definition that gives this for each of its cases.
+use Prim.Native.Nat.{ℕ}
+use mathlib.Core.List.{List, []}
+
+-- `number` is 0 for an answer, else the refusal's; the place is 0 where none is listed; `values` are the answer's own
+pub record Numbered : Type 0 where
+  pub number : ℕ
+  pub inFile : ℕ
+  pub inRecord : ℕ
+  pub inField : ℕ
+  pub atOffset : ℕ
+  pub values : List ℕ
+
+abbrev pub answered : List ℕ → Numbered
+answered vs = record { number = 0; inFile = 0; inRecord = 0; inField = 0; atOffset = 0; values = vs }
+
+-- a refusal with no place
+abbrev pub refused : ℕ → Numbered
+refused n = record { number = n; inFile = 0; inRecord = 0; inField = 0; atOffset = 0; values = [] }
+
+-- a refusal whose place is an offset in a file
+abbrev pub refusedAt : ℕ → ℕ → ℕ → Numbered
+refusedAt n file offset = record { number = n; inFile = file; inRecord = 0; inField = 0; atOffset = offset; values = [] }

@@ -68,3 +68,8 @@ unfoldable pub matched : List ℕ → List ℕ → ℕ
 matched [] l = 0
 matched (d ∷ due) [] = 0
 matched (d ∷ due) (b ∷ l) = pick (eqb b d) (suc (matched due l)) 0
+
+-- the first of these bytes is b
+unfoldable pub starts : ℕ → List ℕ → Bool
+starts b [] = false
+starts b (x ∷ l) = eqb x b

@@ -4,4 +4,5 @@ pub mod Files
 pub mod Reading
 pub mod Writing
 pub mod Answers
+pub mod Fields
 pub mod Reader

@@ -1,6 +1,7 @@
 // The bytes of a file: document 01, "Bytes of a file". A file is read in one way only, and read so: exact, or refused at the byte
 // with which no legal file goes on. Nothing is undoubled, nothing is guessed.
 
+mod reader;
 mod table;
 mod text;
 
@@ -12,6 +13,14 @@ pub enum Outcome {
     Unfit(usize),
     // The file ends at this offset, inside a record.
     CutShort(usize),
+}
+
+// inner: where a field that starts at some place comes to.
+pub enum Ahead {
+    // It is whole, and the next starts here.
+    Field(usize),
+    // It gets no further than here.
+    Stop(usize),
 }
 
 // Why a call refuses; the file's number and the offset where document 01 names a place.

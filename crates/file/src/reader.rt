@@ -1,0 +1,118 @@
+// The scan of a file, field by field, and the stretch of one field: document 01, "Bytes of a file". The scan answers what the reading
+// of specs/Reading.antt comes to, byte by byte, and copies nothing.
+ghost use mathlib.Core.Path.{_≡_};
+ghost use mathlib.Core.Bool.{true};
+ghost use Prim.Native.Nat.{ℕ, _+_, _≤_, _<_};
+ghost use lib.Dec.{ltb};
+ghost use lib.ListN.{length, drop};
+ghost use Rattle.file.specs.Bytes.{matched, starts};
+ghost use Rattle.file.specs.Fields.{closing, nextField, nextRecord, aheadOf, halt};
+ghost use Rattle.file.specs.Reader.{Classes, AheadNear};
+ghost use Rattle.file.specs.Reading.{reading};
+use crate::Ahead;
+use crate::Outcome;
+use crate::text::text_end;
+
+// Whether the byte b stands at this place.
+fn stands(s: &[u8], at: usize, b: u8) -> bool
+    ensures { λ r. ⌜ (r ≡ starts b (drop at (now (s .entry)))) × (r ≡ true → at < length (now (s .entry))) ⌝ }
+{
+    if at < s.len() {
+        return s[at] == b;
+    }
+    false
+}
+
+// How many of the bytes that close a field stand from this place on.
+fn closed(s: &[u8], at: usize, last: bool) -> usize
+    requires { ⌜ at ≤ length (now s) ⌝ }
+    ensures { λ r. ⌜ r ≡ matched (closing last) (drop at (now (s .entry))) ⌝ }
+{
+    if !stands(s, at, b'"') {
+        return 0;
+    }
+    if !last {
+        return if stands(s, at + 1, b',') { 2 } else { 1 };
+    }
+    if !stands(s, at + 1, b';') {
+        return 1;
+    }
+    if !stands(s, at + 2, b'\r') {
+        return 2;
+    }
+    if !stands(s, at + 3, b'\n') {
+        return 3;
+    }
+    4
+}
+
+// Where the field that starts at this place comes to.
+fn field_end(s: &[u8], at: usize, last: bool, class: &[u8; 256]) -> Ahead
+    requires { ⌜ (at < length (now s)) × Classes (now class) ⌝ }
+    ensures { λ r. ⌜ (r ≡ aheadOf (now (s .entry)) at last) × AheadNear (now (s .entry)) at r ⌝ }
+{
+    if s[at] != b'"' {
+        return Ahead::Stop(at);
+    }
+    let end = text_end(s, at + 1, class);
+    let close = closed(s, end, last);
+    if close < closing_size(last) {
+        return Ahead::Stop(end + close);
+    }
+    Ahead::Field(end + close)
+}
+
+fn closing_size(last: bool) -> usize
+    ensures { λ r. ⌜ r ≡ length (closing last) ⌝ }
+{
+    if last { 4 } else { 2 }
+}
+
+// The fields ended in a record after one more.
+fn next_field(last: bool, field: usize) -> usize
+    requires { ⌜ field < 18446744073709551615 ⌝ }
+    ensures { λ r. ⌜ r ≡ nextField last field ⌝ }
+{
+    if last { 0 } else { field + 1 }
+}
+
+// The records ended after one more field.
+fn next_record(last: bool, records: usize) -> usize
+    requires { ⌜ records < 18446744073709551615 ⌝ }
+    ensures { λ r. ⌜ r ≡ nextRecord last records ⌝ }
+{
+    if last { records + 1 } else { records }
+}
+
+// A reading that gets no further than this place.
+fn halted(s: &[u8], at: usize) -> Outcome
+    ensures { λ r. ⌜ r ≡ halt at (ltb at (length (now (s .entry)))) ⌝ }
+{
+    if at < s.len() {
+        return Outcome::Unfit(at);
+    }
+    Outcome::CutShort(at)
+}
+
+// What the reading of a file whose records have n fields comes to.
+fn scan(s: &[u8], n: usize, class: &[u8; 256]) -> Outcome
+    requires { ⌜ (1 ≤ n) × Classes (now class) ⌝ }
+    ensures { λ r. ⌜ r ≡ reading n (now (s .entry)) ⌝ }
+{
+    let mut at = 0;
+    let mut field = 0;
+    let mut records = 0;
+    while at < s.len() {
+        let last = field + 1 == n;
+        match field_end(s, at, last, class) {
+            Ahead::Stop(place) => return halted(s, place),
+            Ahead::Field(next) => at = next,
+        }
+        field = next_field(last, field);
+        records = next_record(last, records);
+    }
+    if field == 0 {
+        return Outcome::Whole(records);
+    }
+    Outcome::CutShort(at)
+}

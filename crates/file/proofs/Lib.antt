@@ -1,3 +1,5 @@
 pub mod TextLaws
 pub mod StepLaws
 pub mod FieldLaws
+pub mod ReadBack
+pub mod PlaceLaws

@@ -31,7 +31,7 @@ TextMode stopped l = ⊥
 abbrev pub after : ℕ → Mode
 after b = pick (eqb b quote) quoted within
 
-goes-on : (b : ℕ) (l : List ℕ) → goesOn (b ∷ l) ≡ true → (permittedByte b ≡ true) × (ends (b ∷ l) ≡ false)
+pub goes-on : (b : ℕ) (l : List ℕ) → goesOn (b ∷ l) ≡ true → (permittedByte b ≡ true) × (ends (b ∷ l) ≡ false)
 unfolding goesOn
 goes-on b l h = (both-left (permittedByte b) _ h, flip (ends (b ∷ l)) (both-right (permittedByte b) _ h))
   where

@@ -4,5 +4,6 @@ pub mod Files
 pub mod Reading
 pub mod Writing
 pub mod Answers
+pub mod Places
 pub mod Fields
 pub mod Reader

@@ -128,7 +128,7 @@ module _ (n f k i a : ℕ) where
   back : i + 1 - 1 ≡ i
   back = omega arith
 
-  closed-run : (last : Bool) → isLast n f ≡ last → (m : Mode) (rest : List ℕ) → TextMode m [] → Passed n f k i a last (state m f k i a) (closing last ++ rest) rest
+  pub closed-run : (last : Bool) → isLast n f ≡ last → (m : Mode) (rest : List ℕ) → TextMode m [] → Passed n f k i a last (state m f k i a) (closing last ++ rest) rest
   unfolding run spans stepIn inText afterText finishedIn ends permittedByte undefined
   closed-run last h opening rest t = absurd t
   closed-run true h within rest t = record { runs = rw (h, two, four); one = rw (h, back, two, four) }

@@ -3,6 +3,9 @@
 
 mod table;
 mod text;
+mod writer;
+
+pub use writer::write;
 
 // What reading a file of records comes to.
 pub enum Outcome {

@@ -1,3 +1,4 @@
 pub mod TextLaws
 pub mod TableLaws
 pub mod WriterLaws
+pub mod Rewriting

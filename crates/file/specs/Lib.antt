@@ -3,5 +3,6 @@ pub mod Format
 pub mod Files
 pub mod Reading
 pub mod Writing
+pub mod Rewriting
 pub mod Answers
 pub mod Reader

@@ -5,7 +5,7 @@ ghost use mathlib.Core.List.{[], _∷_};
 ghost use Prim.Native.Nat.{_+_, _≤_, _<_};
 ghost use lib.ListN.{length};
 ghost use Rattle.laws.specs.Splice.{splice};
-ghost use Rattle.file.specs.Bytes.{quote};
+ghost use Rattle.file.specs.Bytes.{quote, permittedText};
 ghost use Rattle.file.specs.Format.{ending, writtenField};
 ghost use Rattle.file.specs.Writing.{writtenOf, bufferOf};
 ghost use Rattle.file.specs.Answers.{numberedWritten};
@@ -69,6 +69,14 @@ fn beside(last: bool) -> usize
     3
 }
 
+// The class table stands apart from the checks: it is no part of what they decide.
+fn is_permitted(text: &[u8]) -> bool
+    ensures { λ r. ⌜ r ≡ permittedText (now (text .entry)) ⌝ }
+{
+    let class = CLASS;
+    permitted(text, &class)
+}
+
 // Lays the text as field `field` of a record of file `file` from `place` on, and answers the place after it.
 pub fn write(file: u64, field: u64, text: &[u8], d: &mut [u8], place: u64) -> Written
     ensures { λ r. ⌜ (numberedWritten r ≡ writtenOf file field (now (text .entry)) (length (now (d .entry))) place) × (now (d .exit) ≡ bufferOf file field (now (text .entry)) (now (d .entry)) place) ⌝ }
@@ -80,8 +88,7 @@ pub fn write(file: u64, field: u64, text: &[u8], d: &mut [u8], place: u64) -> Wr
     if field > n {
         return Written::Refused(Refusal::NoSuch);
     }
-    let class = CLASS;
-    if !permitted(text, &class) {
+    if !is_permitted(text) {
         return Written::Refused(Refusal::NotPermitted);
     }
     let last = field == n;

@@ -1,3 +1,4 @@
+pub mod TableLaws
 pub mod TextLaws
 pub mod StepLaws
 pub mod FieldLaws
@@ -6,3 +7,5 @@ pub mod PlaceLaws
 pub mod Sound
 pub mod Beginnings
 pub mod Demand3
+pub mod WriterLaws
+pub mod Rewriting

@@ -3,6 +3,7 @@ pub mod Format
 pub mod Files
 pub mod Reading
 pub mod Writing
+pub mod Rewriting
 pub mod Answers
 pub mod Places
 pub mod Fields

@@ -4,6 +4,9 @@
 mod reader;
 mod table;
 mod text;
+mod writer;
+
+pub use writer::write;
 
 // What reading a file of records comes to.
 pub enum Outcome {

@@ -60,7 +60,7 @@ complete-fields n f k at a h =
     let r = record-read n k ts f at a [] (omega (arith, size-blanks (n - f))) (omega (arith, size-blanks (n - f))) (permitted-blanks (n - f)) in
     (writtenRecord ts ++ [], subst (λ (st : State). IsWhole (outcome st)) (sym (r .runs)) tt)
 
-fewer : (n f : ℕ) → f < n → nextField (isLast n f) f < n
+pub fewer : (n f : ℕ) → f < n → nextField (isLast n f) f < n
 fewer n f h = either (isLast n f) (λ e. rw e (omega arith)) (λ e. rw e (let g = eqb-false (f + 1) n e in omega arith))
 
 -- from within a text by its closing

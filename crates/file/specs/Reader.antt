@@ -2,9 +2,13 @@
 use Prim.Native.Nat.{ℕ, _+_, _≤_, _<_}
 use mathlib.Core.Path.{_≡_}
 use mathlib.Core.List.{List}
-use lib.ListN.{getD, length}
-use Rattle.file.specs.Bytes.{classOf}
+use mathlib.Core.Bool.{true}
+use lib.ListN.{getD, length, drop}
+use Rattle.file.specs.Bytes.{classOf, goes}
+use Rattle.file.specs.Reading.{Span, fresh, spans, reading}
 use Rattle.file.specs.declared.Ahead.{Ahead}
+use Rattle.file.specs.declared.Outcome.the-variants.{Whole}
+use Rattle.file.specs.declared.Stretch.{Stretch}
 use Rattle.file.specs.declared.Ahead.the-variants.{Field, Stop}
 
 -- a table holds the class of each byte
@@ -20,3 +24,27 @@ pub record Reached (s : List ℕ) (at n r : ℕ) : Type 0 where
 unfoldable pub AheadNear : List ℕ → ℕ → Ahead → Type 0
 AheadNear s at (Field next) = (at < next) × (next ≤ length s)
 AheadNear s at (Stop place) = place ≤ length s
+
+-- s is a legal file, and has a text that so many others stand before
+pub record Sought (n : ℕ) (s : List ℕ) (others : ℕ) : Type 0 where
+  pub some : 1 ≤ n
+  pub count : ℕ
+  pub whole : reading n s ≡ Whole count
+  pub has : others < length (spans n fresh s)
+
+-- that text
+abbrev pub textSpan : ℕ → List ℕ → ℕ → Span
+textSpan n s others = getD (spans n fresh s) others (record { start = 0; size = 0 })
+
+-- its opening quote stands at this place
+pub record OpensAt (n : ℕ) (s : List ℕ) (others at : ℕ) : Type 0 where
+  pub near : at < length s
+  pub text : textSpan n s others ≡ record { start = at + 1; size = goes (drop (at + 1) s) }
+
+unfoldable pub textAfter : ℕ → List ℕ → ℕ → Stretch
+textAfter n s others = Stretch.At (textSpan n s others .start) (textSpan n s others .size)
+
+-- a stretch is inside a file of so many bytes
+unfoldable pub Inside : ℕ → Stretch → Type 0
+Inside size (Stretch.At start n) = start + n ≤ size
+Inside size (Stretch.Refused r) = Unit

@@ -7,11 +7,20 @@ ghost use lib.Dec.{ltb};
 ghost use lib.ListN.{length, drop};
 ghost use Rattle.file.specs.Bytes.{matched, starts};
 ghost use Rattle.file.specs.Fields.{closing, nextField, nextRecord, aheadOf, halt};
-ghost use Rattle.file.specs.Reader.{Classes, AheadNear};
+ghost use Rattle.file.specs.Reader.{Classes, AheadNear, Sought, OpensAt, Inside, textAfter};
+ghost use Rattle.file.specs.Answers.{numberedCounted, numberedStretch, recordsOf, stretchOf, textOf};
 ghost use Rattle.file.specs.Reading.{reading};
-use crate::Ahead;
-use crate::Outcome;
-use crate::text::text_end;
+use super::Ahead;
+use super::Counted;
+use super::Outcome;
+use super::Refusal;
+use super::Stretch;
+use super::table::CLASS;
+use super::table::fields_of;
+use super::text::text_end;
+
+// The greatest length of a file.
+const LONGEST: usize = 16_777_215;
 
 // Whether the byte b stands at this place.
 fn stands(s: &[u8], at: usize, b: u8) -> bool
@@ -115,4 +124,44 @@ fn scan(s: &[u8], n: usize, class: &[u8; 256]) -> Outcome
         return Outcome::Whole(records);
     }
     Outcome::CutShort(at)
+}
+
+// inner: what the reading of a file whose records have n fields comes to.
+pub fn read(s: &[u8], n: usize) -> Outcome
+    requires { ⌜ 1 ≤ n ⌝ }
+    ensures { λ r. ⌜ r ≡ reading n (now (s .entry)) ⌝ }
+{
+    let class = CLASS;
+    scan(s, n, &class)
+}
+
+// The place of the opening quote of the text that so many others stand before.
+fn opening_of(s: &[u8], n: usize, others: usize, class: &[u8; 256]) -> usize
+    requires { ⌜ Classes (now class) × Sought n (now s) others ⌝ }
+    ensures { λ r. ⌜ OpensAt n (now (s .entry)) others r ⌝ }
+{
+    let mut at = 0;
+    let mut field = 0;
+    let mut left = others;
+    while left > 0 {
+        let last = field + 1 == n;
+        match field_end(s, at, last, class) {
+            Ahead::Stop(place) => return place,
+            Ahead::Field(next) => at = next,
+        }
+        field = next_field(last, field);
+        left -= 1;
+    }
+    at
+}
+
+// The stretch of the text that so many others stand before.
+fn text_after(s: &[u8], n: usize, others: usize) -> Stretch
+    requires { ⌜ Sought n (now s) others ⌝ }
+    ensures { λ r. ⌜ (r ≡ textAfter n (now (s .entry)) others) × Inside (length (now (s .entry))) r ⌝ }
+{
+    let class = CLASS;
+    let start = opening_of(s, n, others, &class) + 1;
+    let end = text_end(s, start, &class);
+    Stretch::At(start as u64, (end - start) as u64)
 }

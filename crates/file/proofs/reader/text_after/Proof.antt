@@ -1,0 +1,39 @@
+-- `file::reader::text_after` meets its contract: the text starts behind its opening quote, and goes on to its end.
+use mathlib.Core.Path.{_≡_, refl, sym, ap, _∙_}
+use Prim.Native.Nat.{ℕ, _+_, _-_, _≤_}
+use native.Mathlib.Omega.{arith}
+use borrow.Author.Needs.{needs}
+use lib.ListN.{length, drop}
+use denote.Ref.{now}
+use Rattle.file.specs.Bytes.{classOf, plain, permittedByte, undefined, goes}
+use Rattle.file.specs.Reader.{textAfter, Inside}
+use Rattle.file.proofs.TableLaws.{classes}
+use Rattle.file.proofs.reader.text_after.Statement.{statement}
+use Rattle.file.proofs.reader.text_after.Tie as tie
+
+opening-of-requires : tie.Need-opening-of-requires
+unfolding classOf plain permittedByte undefined
+opening-of-requires c κs = (classes, c .before .before .pre)
+
+text-end-requires : tie.Need-text-end-requires
+unfolding classOf plain permittedByte undefined
+text-end-requires c κs = (omega (arith, c .before .opening-of .ensures .near), classes)
+
+returns : tie.Need-returns
+unfolding textAfter Inside
+returns c =
+    let o = c .before .before .opening-of in
+    let e = c .text-end .ensures in
+    let s = now (c .before .before .before .before .before .args .s) in
+    let z : c .text-end .result - (o .result + 1) ≡ goes (drop (o .result + 1) s) = omega (arith, e .place) in
+    (rw (o .ensures .text, z), omega (arith, e .near, e .place))
+
+pub text-after-spec : {M : Type 1} → statement M
+text-after-spec =
+    tie.close
+    (tie.spec
+    opening-of-requires
+    (λ c. search needs) -- add-start
+    text-end-requires
+    (λ c. omega (arith, c .text-end .ensures .place)) -- sub-t8
+    returns)

@@ -22,7 +22,7 @@ pub written-once : (n : ℕ) → 1 ≤ n → (rs qs : List Fields) → Permitted
 written-once n h rs qs p q e = given-once n (written rs) rs qs (gives n h rs p) (rw e (gives n h qs q))
 
 -- a reading that comes to a whole number of records has read a legal file
-whole-legal : (n : ℕ) → 1 ≤ n → (s : List ℕ) → IsWhole (reading n s) → Legal n s
+pub whole-legal : (n : ℕ) → 1 ≤ n → (s : List ℕ) → IsWhole (reading n s) → Legal n s
 whole-legal n h s w = sound n h s opening 0 0 0 0 h w
 
 -- the reader gives a list exactly if the bytes are its writing and it is a list of permitted records

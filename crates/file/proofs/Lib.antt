@@ -9,3 +9,5 @@ pub mod Beginnings
 pub mod Demand3
 pub mod WriterLaws
 pub mod Rewriting
+pub mod AnswerLaws
+pub mod AskLaws

@@ -1,10 +1,14 @@
 -- What the reader's inner functions ask and ensure.
 use Prim.Native.Nat.{ℕ, _+_, _≤_, _<_}
 use mathlib.Core.Path.{_≡_}
-use mathlib.Core.List.{List}
+use mathlib.Core.List.{List, [], _∷_}
 use mathlib.Core.Bool.{true}
 use lib.ListN.{getD, length, drop}
+use Rattle.laws.specs.Tests.{pick, both}
+use Rattle.laws.specs.Numbered.{Numbered, answered, refused}
+use Rattle.file.specs.Answers.{spanOf}
 use Rattle.file.specs.Bytes.{classOf, goes}
+use Rattle.file.specs.Files.{among}
 use Rattle.file.specs.Reading.{Span, fresh, spans, reading}
 use Rattle.file.specs.declared.Ahead.{Ahead}
 use Rattle.file.specs.declared.Outcome.the-variants.{Whole}
@@ -48,3 +52,12 @@ textAfter n s others = Stretch.At (textSpan n s others .start) (textSpan n s oth
 unfoldable pub Inside : ℕ → Stretch → Type 0
 Inside size (Stretch.At start n) = start + n ≤ size
 Inside size (Stretch.Refused r) = Unit
+
+-- s is a legal file of k records with n fields each
+pub record Reads (n : ℕ) (s : List ℕ) (k : ℕ) : Type 0 where
+  pub some : 1 ≤ n
+  pub whole : reading n s ≡ Whole k
+
+-- what is asked of such a file: a stretch, or 20 for a record or field that it doesn't have
+unfoldable pub textIn : ℕ → List ℕ → ℕ → ℕ → ℕ → Numbered
+textIn n s k r f = pick (both (among k r) (among n f)) (answered (spanOf n s r f .start ∷ spanOf n s r f .size ∷ [])) (refused 20)

@@ -6,6 +6,9 @@ mod table;
 mod text;
 mod writer;
 
+pub use reader::records;
+pub use reader::stretch_of;
+pub use reader::stretch_part;
 pub use writer::write;
 
 // What reading a file of records comes to.

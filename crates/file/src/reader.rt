@@ -7,7 +7,7 @@ ghost use lib.Dec.{ltb};
 ghost use lib.ListN.{length, drop};
 ghost use Rattle.file.specs.Bytes.{matched, starts};
 ghost use Rattle.file.specs.Fields.{closing, nextField, nextRecord, aheadOf, halt};
-ghost use Rattle.file.specs.Reader.{Classes, AheadNear, Sought, OpensAt, Inside, textAfter};
+ghost use Rattle.file.specs.Reader.{Classes, AheadNear, Sought, OpensAt, Inside, textAfter, Reads, textIn};
 ghost use Rattle.file.specs.Answers.{numberedCounted, numberedStretch, recordsOf, stretchOf, textOf};
 ghost use Rattle.file.specs.Reading.{reading};
 use super::Ahead;
@@ -164,4 +164,74 @@ fn text_after(s: &[u8], n: usize, others: usize) -> Stretch
     let start = opening_of(s, n, others, &class) + 1;
     let end = text_end(s, start, &class);
     Stretch::At(start as u64, (end - start) as u64)
+}
+
+// The stretch of field f of record r in a legal file of k records.
+fn text_of(s: &[u8], n: usize, k: u64, r: u64, f: u64) -> Stretch
+    requires { ⌜ Reads n (now s) k ⌝ }
+    ensures { λ x. ⌜ (numberedStretch x ≡ textIn n (now (s .entry)) k r f) × Inside (length (now (s .entry))) x ⌝ }
+{
+    if r == 0 {
+        return Stretch::Refused(Refusal::NoSuch);
+    }
+    if r > k {
+        return Stretch::Refused(Refusal::NoSuch);
+    }
+    if f == 0 {
+        return Stretch::Refused(Refusal::NoSuch);
+    }
+    if f > n as u64 {
+        return Stretch::Refused(Refusal::NoSuch);
+    }
+    let rows = (r - 1) as usize;
+    text_after(s, n, rows * n + (f - 1) as usize)
+}
+
+// The number of records of a file, or why it is refused.
+pub fn records(file: u64, s: &[u8]) -> Counted
+    ensures { λ r. ⌜ numberedCounted r ≡ recordsOf file (now (s .entry)) ⌝ }
+{
+    let n = fields_of(file);
+    if n == 0 {
+        return Counted::Refused(Refusal::NoSuch);
+    }
+    if s.len() > LONGEST {
+        return Counted::Refused(Refusal::TooLong(file));
+    }
+    match read(s, n) {
+        Outcome::Whole(k) => Counted::Records(k as u64),
+        Outcome::Unfit(at) => Counted::Refused(Refusal::Unfit(file, at as u64)),
+        Outcome::CutShort(at) => Counted::Refused(Refusal::CutShort(file, at as u64)),
+    }
+}
+
+// inner: the stretch, and that it is inside the file.
+fn locate(file: u64, s: &[u8], r: u64, f: u64) -> Stretch
+    ensures { λ x. ⌜ (numberedStretch x ≡ stretchOf file (now (s .entry)) r f) × Inside (length (now (s .entry))) x ⌝ }
+{
+    match records(file, s) {
+        Counted::Refused(why) => Stretch::Refused(why),
+        Counted::Records(k) => text_of(s, fields_of(file), k, r, f),
+    }
+}
+
+// Where field f of record r stands, or why it is refused; both count from 1.
+pub fn stretch_of(file: u64, s: &[u8], r: u64, f: u64) -> Stretch
+    ensures { λ x. ⌜ numberedStretch x ≡ stretchOf file (now (s .entry)) r f ⌝ }
+{
+    locate(file, s, r, f)
+}
+
+// That very part of the file; an empty one with any refusal.
+pub fn stretch_part(file: u64, s: &[u8], r: u64, f: u64) -> &[u8]
+    ensures { λ x. ⌜ now x ≡ textOf file (now (s .entry)) r f ⌝ }
+{
+    match locate(file, s, r, f) {
+        Stretch::At(start, size) => {
+            let a = start as usize;
+            let e = a + size as usize;
+            &s[a..e]
+        }
+        Stretch::Refused(_) => &s[..0],
+    }
 }

@@ -66,13 +66,13 @@ opening-of-spec =
     Inv-loop
     μ-loop
     loop-holds
-    (λ c. omega arith) -- add-last
+    (λ c. omega arith)  -- add-last
     field-end-requires
-    (λ c. search needs) -- enum-known-place
+    (λ c. search needs)  -- enum-known-place
     returns
-    (λ c. search needs) -- enum-known-next
-    (λ c κs. omega arith) -- next-field-requires
-    (λ c. omega arith) -- sub-left
-    (λ c. omega arith) -- loop-less
+    (λ c. search needs)  -- enum-known-next
+    (λ c κs. omega arith)  -- next-field-requires
+    (λ c. omega arith)  -- sub-left
+    (λ c. omega arith)  -- loop-less
     loop-again
     returns-2)

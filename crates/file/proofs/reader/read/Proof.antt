@@ -14,4 +14,4 @@ read-spec =
     tie.close
     (tie.spec
     scan-requires
-    (λ c. search needs)) -- returns
+    (λ c. search needs))  -- returns

@@ -33,7 +33,7 @@ text-after-spec =
     tie.close
     (tie.spec
     opening-of-requires
-    (λ c. search needs) -- add-start
+    (λ c. search needs)  -- add-start
     text-end-requires
-    (λ c. omega (arith, c .text-end .ensures .place)) -- sub-t8
+    (λ c. omega (arith, c .text-end .ensures .place))  -- sub-t8
     returns)

@@ -1,9 +1,9 @@
 -- Written again field by field, a list of permitted records gives its writing. Each call is answered, since its field is one of the
 -- file's, its text is permitted and there is room; what two calls lay stands side by side, and so is one lay of both.
-use mathlib.Core.Path.{_≡_, refl, sym, ap, _∙_}
+use mathlib.Core.Path.{_≡_, refl, ap, _∙_}
 use mathlib.Core.Bool.{Bool, true, false}
 use mathlib.Core.List.{List, [], _∷_, _++_}
-use Prim.Native.Nat.{ℕ, zero, suc, _+_, _-_, _≤_, _<_}
+use Prim.Native.Nat.{ℕ, suc, _+_, _-_, _≤_, _<_}
 use native.Mathlib.Nat.{add-assoc, add-zero}
 use native.Mathlib.Omega.{arith}
 use lib.Dec.{eqb}
@@ -11,9 +11,8 @@ use lib.ListN.{length, getD, length-append}
 use borrow.Author.Tests.{eq-eqb, ne-eqb}
 use Rattle.laws.specs.Splice.{splice, splice-none, splice-length, splice-then}
 use Rattle.file.specs.Bytes.{permittedText}
-use Rattle.file.specs.Format.{Text, Fields, writtenField, writtenRecord, written, PermittedTexts, PermittedRecord, Permitted}
+use Rattle.file.specs.Format.{Text, Fields, writtenField, writtenRecord, written, PermittedTexts, Permitted}
 use Rattle.file.specs.Files.{fieldsOf}
-use Rattle.file.specs.Writing.{hasField, fieldBytes}
 use Rattle.file.specs.Rewriting.{Buffer, buffer, laid, placeIn, writeField, writeFields, writeRecords, rewriteFields, rewriteRecords, fieldIn, Gives}
 use Rattle.file.proofs.WriterLaws.{has-field, when-laid}
 

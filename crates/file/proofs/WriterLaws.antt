@@ -7,9 +7,9 @@ use Prim.Native.Nat.{ℕ, zero, suc, _+_, _-_, _≤_, _<_}
 use native.Mathlib.Omega.{arith}
 use lib.Dec.{eqb, leb}
 use lib.ListN.{length, getD, length-append, List·getD-eq-default}
+use borrow.Rule.Slice.PartMut.{midOf, putMid}
 use borrow.Author.Tests.{le-leb, lt-leb, leb-true, leb-false}
 use Rattle.laws.specs.Tests.{both, either}
-use borrow.Rule.Slice.PartMut.{midOf, putMid}
 use Rattle.laws.specs.Splice.{splice, splice-then, laid-part}
 use Rattle.laws.specs.Numbered.{answered, refused}
 use Rattle.file.specs.Bytes.{quote, permittedText}
@@ -35,6 +35,7 @@ field-laid d x y z t last b e h p q r =
     rw e
     (laid-on d y z 0 (quote ∷ t) (quote ∷ ending b) (length t + 1) (laid-on d x y 0 (quote ∷ []) t 1 p (omega arith) (omega arith) q) (omega arith) (omega arith) r)
 
+-- few enough to be added to any text's length
 pub beside-most : (last : Bool) → length (quote ∷ quote ∷ ending last) ≤ 5
 beside-most true = omega arith
 beside-most false = omega arith
@@ -58,6 +59,7 @@ has-field file f h k =
     let z = fields-file file f h k in
     rw (le-leb 1 file (z .0), le-leb file 13 (z .1), le-leb 1 f h, le-leb f (fieldsOf file) k)
 
+-- none has a field 0; from 1 on the count decides
 pub no-field-0 : (file f : ℕ) → f ≡ 0 → hasField file f ≡ false
 unfolding hasField
 no-field-0 file f h = rw (lt-leb 1 f (omega arith)) (go (isFile file))

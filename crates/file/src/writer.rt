@@ -15,6 +15,7 @@ use super::table::CLASS;
 use super::table::fields_of;
 use super::text::permitted;
 
+// Lays t over d from `at` on: the one loop that touches the buffer.
 fn copy(d: &mut [u8], at: usize, t: &[u8])
     requires { ⌜ at + length (now t) ≤ length (now d) ⌝ }
     ensures { λ _. ⌜ now (d .exit) ≡ splice (now (d .entry)) at (now (t .entry)) ⌝ }
@@ -52,7 +53,7 @@ fn beside(last: bool) -> usize
     3
 }
 
-// The class table stands apart from the checks: it is no part of what they decide.
+// Whether the text is permitted. The class table is made here, so that `write` doesn't carry it through its other checks.
 fn is_permitted(text: &[u8]) -> bool
     ensures { λ r. ⌜ r ≡ permittedText (now (text .entry)) ⌝ }
 {

@@ -1,9 +1,9 @@
 -- Written again field by field, a list of permitted records gives its writing. Each call is answered, since its field is one of the
 -- file's, its text is permitted and there is room; what two calls lay stands side by side, and so is one lay of both.
-use mathlib.Core.Path.{_≡_, refl, sym, ap, _∙_}
+use mathlib.Core.Path.{_≡_, refl, ap, _∙_}
 use mathlib.Core.Bool.{Bool, true, false}
 use mathlib.Core.List.{List, [], _∷_, _++_}
-use Prim.Native.Nat.{ℕ, zero, suc, _+_, _-_, _≤_, _<_}
+use Prim.Native.Nat.{ℕ, suc, _+_, _-_, _≤_, _<_}
 use native.Mathlib.Nat.{add-assoc, add-zero}
 use native.Mathlib.Omega.{arith}
 use lib.Dec.{eqb}
@@ -11,9 +11,8 @@ use lib.ListN.{length, getD, length-append}
 use borrow.Author.Tests.{eq-eqb, ne-eqb}
 use Rattle.laws.specs.Splice.{splice, splice-none, splice-length, splice-then}
 use Rattle.file.specs.Bytes.{permittedText}
-use Rattle.file.specs.Format.{Text, Fields, writtenField, writtenRecord, written, PermittedTexts, PermittedRecord, Permitted}
+use Rattle.file.specs.Format.{Text, Fields, writtenField, writtenRecord, written, PermittedTexts, Permitted}
 use Rattle.file.specs.Files.{fieldsOf}
-use Rattle.file.specs.Writing.{hasField, fieldBytes}
 use Rattle.file.specs.Rewriting.{Buffer, buffer, laid, placeIn, writeField, writeFields, writeRecords, rewriteFields, rewriteRecords, fieldIn, Gives}
 use Rattle.file.proofs.WriterLaws.{has-field, when-laid}
 
@@ -25,15 +24,16 @@ laid-both : (d : List ℕ) (place : ℕ) (a b : List ℕ) → place + length a �
 laid-both d place a b h = rw (splice-then d place a b (place + length a) refl h, length-append, add-assoc)
 
 -- a lay, and what goes on from it
-laid-on : (go : Buffer → Buffer) (w : Buffer) (d : List ℕ) (place : ℕ) (a b : List ℕ) → w ≡ laid a (buffer d place)
+laid-then : (go : Buffer → Buffer) (w : Buffer) (d : List ℕ) (place : ℕ) (a b : List ℕ) → w ≡ laid a (buffer d place)
     → ((x : List ℕ) (at : ℕ) → at + length b ≤ length x → go (buffer x at) ≡ laid b (buffer x at)) → place + length (a ++ b) ≤ length d
     → go w ≡ laid (a ++ b) (buffer d place)
-laid-on go w d place a b e rest h =
+laid-then go w d place a b e rest h =
     let k : place + (length a + length b) ≤ length d = simp length-append at h in
     let l = splice-length d place a (omega arith) in
     ap go e ∙ rest (splice d place a) (place + length a) (omega arith) ∙ laid-both d place a b (omega arith)
 
 module _ (file : ℕ) where
+  -- a field, a record, and a list of records
   field-again : (f : ℕ) (t : Text) (last : Bool) (d : List ℕ) (place : ℕ) → eqb f (fieldsOf file) ≡ last → 1 ≤ f → f ≤ fieldsOf file → permittedText t ≡ true
       → place + length (writtenField last t) ≤ length d → writeField file f t (buffer d place) ≡ laid (writtenField last t) (buffer d place)
   unfolding writeField placeIn
@@ -48,7 +48,7 @@ module _ (file : ℕ) where
   fields-again f (t ∷ []) p q r d place h = field-again f t true d place (eq-eqb f (fieldsOf file) (omega arith)) p (omega arith) (r .0) h
   fields-again f (t ∷ u ∷ ts) p q r d place h =
       let k : place + (length (writtenField false t) + length (writtenRecord (u ∷ ts))) ≤ length d = simp length-append at h in
-      laid-on
+      laid-then
       (writeFields file (suc f) (u ∷ ts))
       (writeField file f t (buffer d place))
       d
@@ -59,14 +59,15 @@ module _ (file : ℕ) where
       (fields-again (suc f) (u ∷ ts) (omega arith) (omega arith) (r .1))
       h
 
-  -- what was read and is written again, from any place in any buffer with room, gives the same bytes there and leaves the rest alone
+  -- what is written again, from any place in any buffer with room, gives the same bytes there and leaves the rest alone; a number
+  -- that no file has is no exception, since its records have no fields
   pub written-again : (rs : List Fields) → Permitted (fieldsOf file) rs → (d : List ℕ) (place : ℕ) → place + length (written rs) ≤ length d
       → writeRecords file rs (buffer d place) ≡ laid (written rs) (buffer d place)
   unfolding writeRecords written Permitted
   written-again [] p d place h = laid-none d place
   written-again (r ∷ rs) p d place h =
       let k : place + (length (writtenRecord r) + length (written rs)) ≤ length d = simp length-append at h in
-      laid-on
+      laid-then
       (writeRecords file rs)
       (writeFields file 1 r (buffer d place))
       d

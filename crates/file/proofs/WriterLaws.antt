@@ -7,9 +7,9 @@ use Prim.Native.Nat.{ℕ, zero, suc, _+_, _-_, _≤_, _<_}
 use native.Mathlib.Omega.{arith}
 use lib.Dec.{eqb, leb}
 use lib.ListN.{length, getD, length-append, List·getD-eq-default}
+use borrow.Rule.Slice.PartMut.{midOf, putMid}
 use borrow.Author.Tests.{le-leb, lt-leb, leb-true, leb-false}
 use Rattle.laws.specs.Tests.{both, either}
-use borrow.Rule.Slice.PartMut.{midOf, putMid}
 use Rattle.laws.specs.Splice.{splice, splice-then, laid-part}
 use Rattle.laws.specs.Numbered.{answered, refused}
 use Rattle.file.specs.Bytes.{quote, permittedText}
@@ -26,6 +26,16 @@ pub field-size : (last : Bool) (t : Text) → length (writtenField last t) ≡ l
 unfolding writtenField
 field-size last t = simp length-append (omega arith)
 
+-- quote, text, and the closing of a last field or of another
+pub field-laid : (d x y z t : List ℕ) (last b : Bool) → last ≡ b → length (writtenField last t) ≤ length d → x ≡ splice d 0 (quote ∷ []) → y ≡ splice x 1 t
+    → z ≡ splice y (length t + 1) (quote ∷ ending b) → z ≡ splice d 0 (writtenField last t)
+unfolding writtenField
+field-laid d x y z t last b e h p q r =
+    let l = field-size last t in
+    rw e
+    (laid-on d y z 0 (quote ∷ t) (quote ∷ ending b) (length t + 1) (laid-on d x y 0 (quote ∷ []) t 1 p (omega arith) (omega arith) q) (omega arith) (omega arith) r)
+
+-- few enough to be added to any text's length
 pub beside-most : (last : Bool) → length (quote ∷ quote ∷ ending last) ≤ 5
 beside-most true = omega arith
 beside-most false = omega arith
@@ -49,6 +59,7 @@ has-field file f h k =
     let z = fields-file file f h k in
     rw (le-leb 1 file (z .0), le-leb file 13 (z .1), le-leb 1 f h, le-leb f (fieldsOf file) k)
 
+-- none has a field 0; from 1 on the count decides
 pub no-field-0 : (file f : ℕ) → f ≡ 0 → hasField file f ≡ false
 unfolding hasField
 no-field-0 file f h = rw (lt-leb 1 f (omega arith)) (go (isFile file))
@@ -57,14 +68,13 @@ no-field-0 file f h = rw (lt-leb 1 f (omega arith)) (go (isFile file))
     go true = refl
     go false = refl
 
-pub no-field-over : (file f : ℕ) → fieldsOf file < f → hasField file f ≡ false
+pub field-known : (file f n : ℕ) → n ≡ fieldsOf file → 1 ≤ f → leb f n ≡ hasField file f
 unfolding hasField
-no-field-over file f h = rw (lt-leb f (fieldsOf file) h) (go (isFile file) (leb 1 f))
+field-known file f n e h = rw e (either (leb f (fieldsOf file)) (λ k. k ∙ sym (has-field file f h (leb-true f (fieldsOf file) k))) (λ k. rw (k, le-leb 1 f h) (go (isFile file))))
   where
-    go : (s t : Bool) → both s (both t false) ≡ false
-    go true true = refl
-    go true false = refl
-    go false t = refl
+    go : (t : Bool) → false ≡ both t false
+    go true = refl
+    go false = refl
 
 -- what the call comes back with and leaves in the buffer, in each of its four cases
 module _ (file f : ℕ) (t : Text) (d : List ℕ) (place : ℕ) where

@@ -4,7 +4,6 @@ use mathlib.Core.Path.{_≡_}
 use mathlib.Core.List.{List, [], _∷_}
 use lib.ListN.{getD, length}
 use Rattle.laws.specs.Splice.{splice}
-use Rattle.laws.specs.Numbered.{Numbered}
 use Rattle.file.specs.Format.{Text, Fields}
 use Rattle.file.specs.Files.{fieldsOf}
 use Rattle.file.specs.Writing.{writtenOf, bufferOf}

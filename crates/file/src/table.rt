@@ -3,24 +3,16 @@ ghost use mathlib.Core.Path.{_≡_};
 ghost use Rattle.file.specs.Files.{fieldsOf};
 
 // `.` for a byte with which a text goes on whatever follows; `#` for the quote, which may end a field, and for each byte that no text
-// holds. Sixteen bytes to a row.
+// holds. Thirty-two bytes to a row.
 pub const CLASS: [u8; 256] = *b"\
-    ################\
-    ################\
-    ..#.............\
-    ................\
-    ................\
-    ................\
-    ................\
-    ...............#\
-    .#.#....#.......\
-    #.......#.......\
-    ................\
-    ................\
-    ................\
-    ................\
-    ................\
-    ................";
+    ################################\
+    ..#.............................\
+    ................................\
+    ...............................#\
+    .#.#....#.......#.......#.......\
+    ................................\
+    ................................\
+    ................................";
 
 // How many fields a record of each file has, from file 1 on; no file has the number 0.
 const FIELDS: [usize; 14] = [0, 1, 12, 3, 11, 10, 12, 7, 10, 3, 8, 13, 3, 3];

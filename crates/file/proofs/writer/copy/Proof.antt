@@ -19,10 +19,13 @@ loop-again : tie.Need-loop-again Inv-loop μ-loop
 loop-again c =
     let a = c .before .before .before .args in
     let l = c .before .before .loop in
-    (omega arith, rw (l .inv .1) (copy-step (now (a .d)) (a .at) (now (a .t)) (l .i) (c .before .before .before .pre) (c .before .loop-test .taken)), simp length-set (l .inv .2))
+    (omega arith, rw (l .inv .1) (copy-step (now (a .d)) (a .at) (now (a .t)) (l .i) (c .before .before .before .pre) (omega arith)), simp length-set (l .inv .2))
 
 returns : tie.Need-returns Inv-loop μ-loop
-returns c = c .before .loop .inv .1 ∙ rw (take-all _ _ (c .loop-test .left))
+returns c =
+    let a = c .before .before .args in
+    let h : length (now (a .t)) ≤ c .before .loop .i = omega arith in
+    c .before .loop .inv .1 ∙ rw (take-all _ _ h)
 
 pub copy-spec : {M : Type 1} → statement M
 copy-spec =

@@ -1,49 +1,61 @@
 -- `file::writer::lay` meets its contract: quote, text and closing stand side by side, so they are one lay.
-use mathlib.Core.List.{[], _∷_}
-use Prim.Native.Nat.{_+_, _≤_}
+use mathlib.Core.Bool.{true, false}
 use borrow.Author.Needs.{needs}
 use native.Mathlib.Omega.{arith}
-use lib.ListN.{length}
 use denote.Ref.{now}
-use Rattle.file.specs.Bytes.{quote}
-use Rattle.file.specs.Format.{ending, writtenField}
-use Rattle.file.proofs.WriterLaws.{laid-on, field-size}
+use Rattle.file.proofs.WriterLaws.{field-laid, field-size}
 use Rattle.file.proofs.writer.lay.Statement.{statement}
 use Rattle.file.proofs.writer.lay.Tie as tie
 
-put-requires : tie.Need-put-requires
-put-requires c κs =
-    let a = c .before .before .before .args in
-    omega (arith, field-size (a .last) (now (a .t)))
-
 copy-requires : tie.Need-copy-requires
 copy-requires c κs =
-    let a = c .before .before .before .before .before .before .before .args in
+    let a = c .before .before .before .before .args in
     omega (arith, field-size (a .last) (now (a .t)))
 
-close-requires : tie.Need-close-requires
-close-requires c κs =
-    let a = c .before .before .before .before .before .before .before .before .before .before .before .args in
+copy-requires-2 : tie.Need-copy-requires-2
+copy-requires-2 c κs =
+    let a = c .before .before .before .before .before .before .before .before .args in
     omega (arith, field-size (a .last) (now (a .t)))
+
+copy-requires-3 : tie.Need-copy-requires-3
+copy-requires-3 c κs =
+    let p = c .before .before in
+    let a = p .before .before .before .before .before .before .before .before .before .before .before .before .args in
+    omega (arith, rw (p .if1 .taken) at (field-size (a .last) (now (a .t))), rw (p .if1 .taken) at (p .before .before .before .before .before .before .before .before .before .before .before .before .pre))
 
 returns : tie.Need-returns
-unfolding writtenField
 returns c =
-    let p = c .before .before .before .before .before .before .before .before .before .before .before .before .before .before in
-    let d = now (p .args .d) in
-    let t = now (p .args .t) in
-    let l = field-size (p .args .last) t in
-    let h : length (writtenField (p .args .last) t) ≤ length d = p .pre in
-    let a = laid-on d _ _ 0 (34 ∷ []) t 1 (c .before .before .before .before .before .before .before .before .before .before .put .ensures) (omega arith) (omega arith) (c .before .before .before .before .before .before .copy .ensures) in
-    laid-on d _ _ 0 (34 ∷ t) (quote ∷ ending (p .args .last)) (length t + 1) a (omega arith) (omega arith) (c .before .before .close .ensures)
+    let p = c .before .before .before .before .before in
+    let m = p .before .before .before in
+    let s = m .before .before .before .before .before .before .before .before .before in
+    field-laid (now (s .args .d)) _ _ _ (now (s .args .t)) (s .args .last) true (p .if1 .taken) (s .pre) (m .before .before .before .before .copy .ensures) (m .copy2 .ensures) (c .before .before .copy3 .ensures)
+
+copy-requires-4 : tie.Need-copy-requires-4
+copy-requires-4 c κs =
+    let p = c .before .before in
+    let a = p .before .before .before .before .before .before .before .before .before .before .before .before .args in
+    omega (arith, rw (p .if1 .left) at (field-size (a .last) (now (a .t))), rw (p .if1 .left) at (p .before .before .before .before .before .before .before .before .before .before .before .before .pre))
+
+returns-2 : tie.Need-returns-2
+returns-2 c =
+    let p = c .before .before .before .before .before in
+    let m = p .before .before .before in
+    let s = m .before .before .before .before .before .before .before .before .before in
+    field-laid (now (s .args .d)) _ _ _ (now (s .args .t)) (s .args .last) false (p .if1 .left) (s .pre) (m .before .before .before .before .copy .ensures) (m .copy2 .ensures) (c .before .before .copy4 .ensures)
 
 pub lay-spec : {M : Type 1} → statement M
 lay-spec =
     tie.close
     (tie.spec
-    put-requires
+    (λ c. search needs)  -- slice-aggregate-copy
     copy-requires
-    (λ c. search needs)  -- add-close
-    close-requires
+    copy-requires-2
+    (λ c. search needs)  -- add-end
+    (λ c. search needs)  -- slice-aggregate-copy-2
+    copy-requires-3
     (λ c. search needs)  -- same-length
-    returns)
+    returns
+    (λ c. search needs)  -- slice-aggregate-copy-3
+    copy-requires-4
+    (λ c. search needs)  -- same-length-2
+    returns-2)

@@ -3,7 +3,7 @@
 use mathlib.Core.Path.{_≡_, sym, _∙_}
 use mathlib.Core.Bool.{true}
 use mathlib.Core.List.{List}
-use Prim.Native.Nat.{ℕ, _+_, _≤_, _<_}
+use Prim.Native.Nat.{ℕ, _+_, _≤_}
 use borrow.Author.Needs.{needs}
 use borrow.Author.Tests.{not-true, not-false}
 use native.Mathlib.Omega.{arith}
@@ -12,49 +12,48 @@ use lib.ListN.{length, length-drop}
 use denote.Ref.{now}
 use Rattle.laws.specs.Splice.{mid-all}
 use Rattle.file.specs.Bytes.{permittedText}
-use Rattle.file.specs.Files.{fieldsOf}
 use Rattle.file.specs.Writing.{hasField, fieldBytes}
 use Rattle.file.specs.Answers.{numbered, numberedWritten}
-use Rattle.file.proofs.WriterLaws.{beside-most, has-field, no-field-0, no-field-over, when-no-field, when-not-permitted, when-no-room, when-laid, field-size, laid-size, part-laid}
+use Rattle.file.proofs.WriterLaws.{beside-most, when-no-field, when-not-permitted, when-no-room, when-laid, field-size, laid-size, part-laid}
 use Rattle.file.proofs.writer.write.Statement.{statement}
 use Rattle.file.proofs.writer.write.Tie as tie
 use Rattle.file.proofs.writer.write.Reads as reads
 use Rattle.file.proofs.writer.write.Lts as lts
 use Rattle.file.proofs.table.fields_of.Reads as fields-of-reads
-use Rattle.file.proofs.writer.is_permitted.Reads as is-permitted-reads
 use Rattle.file.proofs.writer.beside.Reads as beside-reads
+use Rattle.file.proofs.writer.has_field.Reads as has-field-reads
+use Rattle.file.proofs.writer.is_permitted.Reads as is-permitted-reads
 use Rattle.file.proofs.writer.lay.Reads as lay-reads
 
 returns : tie.Need-returns
 unfolding numberedWritten numbered
 returns c =
     let a = c .before .before .before .before .args in
-    when-no-field (a .file) (a .field) (now (a .text)) (now (a .d)) (a .place) (no-field-0 (a .file) (a .field) (c .if1 .taken))
+    when-no-field (a .file) (a .field) (now (a .text)) (now (a .d)) (a .place) (sym (c .before .has-field .ensures) ∙ not-true _ (c .if1 .taken))
 
 returns-2 : tie.Need-returns-2
 unfolding numberedWritten numbered
 returns-2 c =
-    let a = c .before .before .before .before .before .args in
-    let h : fieldsOf (a .file) < a .field = omega (arith, c .before .before .fields-of .ensures) in
-    when-no-field (a .file) (a .field) (now (a .text)) (now (a .d)) (a .place) (no-field-over (a .file) (a .field) h)
-
-returns-3 : tie.Need-returns-3
-unfolding numberedWritten numbered
-returns-3 c =
     let p = c .before .before in
-    let a = p .before .before .before .before .before .args in
-    let e = p .before .before .fields-of .ensures in
-    let h = has-field (a .file) (a .field) (omega arith) (omega arith) in
-    when-not-permitted (a .file) (a .field) (now (a .text)) (now (a .d)) (a .place) h (sym (c .before .is-permitted .ensures) ∙ not-true _ (c .if3 .taken))
+    let a = p .before .before .before .before .args in
+    when-not-permitted
+    (a .file)
+    (a .field)
+    (now (a .text))
+    (now (a .d))
+    (a .place)
+    (sym (p .before .has-field .ensures) ∙ not-false _ (p .if1 .left))
+    (sym (c .before .is-permitted .ensures) ∙ not-true _ (c .if2 .taken))
 
 add-size : tie.Need-add-size
-add-size c = omega (arith, c .beside .ensures, beside-most (eqb (c .before .before .before .before .before .before .before .before .args .field) (c .before .before .before .before .before .fields-of .result)))
+add-size c =
+    omega (arith, c .beside .ensures, beside-most (eqb (c .before .before .before .before .before .before .before .before .args .field) (c .before .fields-of .result)))
 
 -- the place past the checks of field and text, with the field's size at hand
 abbrev Passed : Type 0
 Passed =
     lts.After-beside
-    (fields-of-reads.Asked, fields-of-reads.Learnt, is-permitted-reads.Asked, is-permitted-reads.Learnt, beside-reads.Asked, beside-reads.Learnt, lay-reads.Asked, lay-reads.Learnt)
+    (has-field-reads.Asked, has-field-reads.Learnt, is-permitted-reads.Asked, is-permitted-reads.Learnt, fields-of-reads.Asked, fields-of-reads.Learnt, beside-reads.Asked, beside-reads.Learnt, lay-reads.Asked, lay-reads.Learnt)
     reads.Pre
     reads.Post
 
@@ -70,30 +69,27 @@ module _ (p : Passed) where
   text = now (p .before .before .before .before .before .before .before .before .args .text)
 
   abbrev fields : ℕ
-  fields = p .before .before .before .before .before .fields-of .result
-
-  known-count : fields ≡ fieldsOf file
-  known-count = p .before .before .before .before .before .fields-of .ensures
+  fields = p .before .fields-of .result
 
   known-field : hasField file field ≡ true
-  known-field = let e = known-count in has-field file field (omega arith) (omega arith)
+  known-field = sym (p .before .before .before .before .before .has-field .ensures) ∙ not-false _ (p .before .before .before .before .if1 .left)
 
   known-text : permittedText text ≡ true
-  known-text = sym (p .before .before .is-permitted .ensures) ∙ not-false _ (p .before .if3 .left)
+  known-text = sym (p .before .before .before .is-permitted .ensures) ∙ not-false _ (p .before .before .if2 .left)
 
   known-size : length text + p .beside .result ≡ length (fieldBytes file field text)
-  known-size = laid-size file field text fields (p .beside .result) known-count (p .beside .ensures)
+  known-size = laid-size file field text fields (p .beside .result) (p .before .fields-of .ensures) (p .beside .ensures)
 
-returns-4 : tie.Need-returns-4
+returns-3 : tie.Need-returns-3
 unfolding numberedWritten numbered
-returns-4 c =
+returns-3 c =
     let p = c .before in
     let a = p .before .before .before .before .before .before .before .before .args in
     when-no-room (a .file) (a .field) (now (a .text)) (now (a .d)) (a .place) (known-field p) (known-text p) (omega arith)
 
-returns-5 : tie.Need-returns-5
+returns-4 : tie.Need-returns-4
 unfolding numberedWritten numbered
-returns-5 c =
+returns-4 c =
     let p = c .before .before in
     let a = p .before .before .before .before .before .before .before .before .args in
     when-no-room (a .file) (a .field) (now (a .text)) (now (a .d)) (a .place) (known-field p) (known-text p) (omega (arith, known-size p))
@@ -104,34 +100,34 @@ lay-requires c κs =
     let a = p .before .before .before .before .before .before .before .before .args in
     rw (mid-all (now (a .d)) (a .place), length-drop) (omega (arith, field-size (eqb (field p) (fields p)) (text p), p .beside .ensures))
 
-returns-6 : tie.Need-returns-6
+returns-5 : tie.Need-returns-5
 unfolding numberedWritten numbered
-returns-6 c =
+returns-5 c =
     let p = c .before .before .before .before .before .before in
     let a = p .before .before .before .before .before .before .before .before .args in
     let d = now (a .d) in
     let h : a .place ≤ length d = omega arith in
     let w = when-laid (a .file) (a .field) (now (a .text)) d (a .place) (known-field p) (known-text p) (omega (arith, known-size p)) in
-    (rw (known-size p) (w .0), part-laid (file p) (field p) (text p) (fields p) d (a .place) _ (known-count p) h (c .before .before .lay .ensures) ∙ w .1)
+    (rw (known-size p) (w .0), part-laid (file p) (field p) (text p) (fields p) d (a .place) _ (p .before .fields-of .ensures) h (c .before .before .lay .ensures) ∙ w .1)
 
 pub write-spec : {M : Type 1} → statement M
 write-spec =
     tie.close
     (tie.spec
-    (λ c κs. search needs)  -- fields-of-requires
+    (λ c κs. search needs)  -- has-field-requires
     returns
-    returns-2
     (λ c κs. search needs)  -- is-permitted-requires
-    returns-3
+    returns-2
+    (λ c κs. search needs)  -- fields-of-requires
     (λ c κs. search needs)  -- beside-requires
     add-size
+    returns-3
+    (λ c. search needs)  -- sub-if4
     returns-4
-    (λ c. search needs)  -- sub-if5
-    returns-5
     (λ c. search needs)  -- sub-lay
     (λ c. search needs)  -- part-lay-start
     (λ c. search needs)  -- part-lay-end
     lay-requires
-    (λ c. search needs)  -- add-t11
+    (λ c. search needs)  -- add-t13
     (λ c. search needs)  -- same-length
-    returns-6)
+    returns-5)

@@ -1,15 +1,13 @@
 // The bytes of a file: document 01, "Bytes of a file". A file is read in one way only, and read so: exact, or refused at the byte
 // with which no legal file goes on. Nothing is undoubled, nothing is guessed.
 
-mod reader;
 mod table;
 mod text;
-mod writer;
 
-pub use reader::records;
-pub use reader::stretch_of;
-pub use reader::stretch_part;
-pub use writer::write;
+pub use table::classes;
+pub use table::fields_of;
+pub use text::permitted;
+pub use text::text_end;
 
 // What reading a file of records comes to.
 pub enum Outcome {

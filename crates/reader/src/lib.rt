@@ -1,0 +1,237 @@
+// The scan of a file, field by field, and the stretch of one field: document 01, "Bytes of a file". The scan answers what the reading
+// of specs/Reading.antt comes to, byte by byte, and copies nothing.
+ghost use mathlib.Core.Path.{_≡_};
+ghost use mathlib.Core.Bool.{true};
+ghost use Prim.Native.Nat.{ℕ, _+_, _≤_, _<_};
+ghost use lib.Dec.{ltb};
+ghost use lib.ListN.{length, drop};
+ghost use Rattle.file.specs.Bytes.{matched, starts};
+ghost use Rattle.file.specs.Fields.{closing, nextField, nextRecord, aheadOf, halt};
+ghost use Rattle.file.specs.Reader.{Classes, AheadNear, Sought, OpensAt, Inside, textAfter, Reads, textIn};
+ghost use Rattle.file.specs.Answers.{numberedCounted, numberedStretch, recordsOf, stretchOf, textOf};
+ghost use Rattle.file.specs.Reading.{reading};
+use file::Ahead;
+use file::Counted;
+use file::Outcome;
+use file::Refusal;
+use file::Stretch;
+use file::classes;
+use file::fields_of;
+use file::text_end;
+
+// The greatest length of a file.
+const LONGEST: usize = 16_777_215;
+
+// Whether the byte b stands at this place.
+fn stands(s: &[u8], at: usize, b: u8) -> bool
+    ensures { λ r. ⌜ (r ≡ starts b (drop at (now (s .entry)))) × (r ≡ true → at < length (now (s .entry))) ⌝ }
+{
+    if at < s.len() {
+        return s[at] == b;
+    }
+    false
+}
+
+// How many of the bytes that close a field stand from this place on.
+fn closed(s: &[u8], at: usize, last: bool) -> usize
+    requires { ⌜ at ≤ length (now s) ⌝ }
+    ensures { λ r. ⌜ r ≡ matched (closing last) (drop at (now (s .entry))) ⌝ }
+{
+    if !stands(s, at, b'"') {
+        return 0;
+    }
+    if !last {
+        return if stands(s, at + 1, b',') { 2 } else { 1 };
+    }
+    if !stands(s, at + 1, b';') {
+        return 1;
+    }
+    if !stands(s, at + 2, b'\r') {
+        return 2;
+    }
+    if !stands(s, at + 3, b'\n') {
+        return 3;
+    }
+    4
+}
+
+// Where the field that starts at this place comes to.
+fn field_end(s: &[u8], at: usize, last: bool, class: &[u8; 256]) -> Ahead
+    requires { ⌜ (at < length (now s)) × Classes (now class) ⌝ }
+    ensures { λ r. ⌜ (r ≡ aheadOf (now (s .entry)) at last) × AheadNear (now (s .entry)) at r ⌝ }
+{
+    if s[at] != b'"' {
+        return Ahead::Stop(at);
+    }
+    let end = text_end(s, at + 1, class);
+    let close = closed(s, end, last);
+    if close < closing_size(last) {
+        return Ahead::Stop(end + close);
+    }
+    Ahead::Field(end + close)
+}
+
+fn closing_size(last: bool) -> usize
+    ensures { λ r. ⌜ r ≡ length (closing last) ⌝ }
+{
+    if last { 4 } else { 2 }
+}
+
+// The fields ended in a record after one more.
+fn next_field(last: bool, field: usize) -> usize
+    requires { ⌜ field < 18446744073709551615 ⌝ }
+    ensures { λ r. ⌜ r ≡ nextField last field ⌝ }
+{
+    if last { 0 } else { field + 1 }
+}
+
+// The records ended after one more field.
+fn next_record(last: bool, records: usize) -> usize
+    requires { ⌜ records < 18446744073709551615 ⌝ }
+    ensures { λ r. ⌜ r ≡ nextRecord last records ⌝ }
+{
+    if last { records + 1 } else { records }
+}
+
+// A reading that gets no further than this place.
+fn halted(s: &[u8], at: usize) -> Outcome
+    ensures { λ r. ⌜ r ≡ halt at (ltb at (length (now (s .entry)))) ⌝ }
+{
+    if at < s.len() {
+        return Outcome::Unfit(at);
+    }
+    Outcome::CutShort(at)
+}
+
+// What the reading of a file whose records have n fields comes to.
+fn scan(s: &[u8], n: usize, class: &[u8; 256]) -> Outcome
+    requires { ⌜ (1 ≤ n) × Classes (now class) ⌝ }
+    ensures { λ r. ⌜ r ≡ reading n (now (s .entry)) ⌝ }
+{
+    let mut at = 0;
+    let mut field = 0;
+    let mut records = 0;
+    while at < s.len() {
+        let last = field + 1 == n;
+        match field_end(s, at, last, class) {
+            Ahead::Stop(place) => return halted(s, place),
+            Ahead::Field(next) => at = next,
+        }
+        field = next_field(last, field);
+        records = next_record(last, records);
+    }
+    if field == 0 {
+        return Outcome::Whole(records);
+    }
+    Outcome::CutShort(at)
+}
+
+// inner: what the reading of a file whose records have n fields comes to.
+pub fn read(s: &[u8], n: usize) -> Outcome
+    requires { ⌜ 1 ≤ n ⌝ }
+    ensures { λ r. ⌜ r ≡ reading n (now (s .entry)) ⌝ }
+{
+    let class = classes();
+    scan(s, n, &class)
+}
+
+// The place of the opening quote of the text that so many others stand before.
+fn opening_of(s: &[u8], n: usize, others: usize, class: &[u8; 256]) -> usize
+    requires { ⌜ Classes (now class) × Sought n (now s) others ⌝ }
+    ensures { λ r. ⌜ OpensAt n (now (s .entry)) others r ⌝ }
+{
+    let mut at = 0;
+    let mut field = 0;
+    let mut left = others;
+    while left > 0 {
+        let last = field + 1 == n;
+        match field_end(s, at, last, class) {
+            Ahead::Stop(place) => return place,
+            Ahead::Field(next) => at = next,
+        }
+        field = next_field(last, field);
+        left -= 1;
+    }
+    at
+}
+
+// The stretch of the text that so many others stand before.
+fn text_after(s: &[u8], n: usize, others: usize) -> Stretch
+    requires { ⌜ Sought n (now s) others ⌝ }
+    ensures { λ r. ⌜ (r ≡ textAfter n (now (s .entry)) others) × Inside (length (now (s .entry))) r ⌝ }
+{
+    let class = classes();
+    let start = opening_of(s, n, others, &class) + 1;
+    let end = text_end(s, start, &class);
+    Stretch::At(start as u64, (end - start) as u64)
+}
+
+// The stretch of field f of record r in a legal file of k records.
+fn text_of(s: &[u8], n: usize, k: u64, r: u64, f: u64) -> Stretch
+    requires { ⌜ Reads n (now s) k ⌝ }
+    ensures { λ x. ⌜ (numberedStretch x ≡ textIn n (now (s .entry)) k r f) × Inside (length (now (s .entry))) x ⌝ }
+{
+    if r == 0 {
+        return Stretch::Refused(Refusal::NoSuch);
+    }
+    if r > k {
+        return Stretch::Refused(Refusal::NoSuch);
+    }
+    if f == 0 {
+        return Stretch::Refused(Refusal::NoSuch);
+    }
+    if f > n as u64 {
+        return Stretch::Refused(Refusal::NoSuch);
+    }
+    let rows = (r - 1) as usize;
+    text_after(s, n, rows * n + (f - 1) as usize)
+}
+
+// The number of records of a file, or why it is refused.
+pub fn records(file: u64, s: &[u8]) -> Counted
+    ensures { λ r. ⌜ numberedCounted r ≡ recordsOf file (now (s .entry)) ⌝ }
+{
+    let n = fields_of(file);
+    if n == 0 {
+        return Counted::Refused(Refusal::NoSuch);
+    }
+    if s.len() > LONGEST {
+        return Counted::Refused(Refusal::TooLong(file));
+    }
+    match read(s, n) {
+        Outcome::Whole(k) => Counted::Records(k as u64),
+        Outcome::Unfit(at) => Counted::Refused(Refusal::Unfit(file, at as u64)),
+        Outcome::CutShort(at) => Counted::Refused(Refusal::CutShort(file, at as u64)),
+    }
+}
+
+// inner: the stretch, and that it is inside the file.
+fn locate(file: u64, s: &[u8], r: u64, f: u64) -> Stretch
+    ensures { λ x. ⌜ (numberedStretch x ≡ stretchOf file (now (s .entry)) r f) × Inside (length (now (s .entry))) x ⌝ }
+{
+    match records(file, s) {
+        Counted::Refused(why) => Stretch::Refused(why),
+        Counted::Records(k) => text_of(s, fields_of(file), k, r, f),
+    }
+}
+
+// Where field f of record r stands, or why it is refused; both count from 1.
+pub fn stretch_of(file: u64, s: &[u8], r: u64, f: u64) -> Stretch
+    ensures { λ x. ⌜ numberedStretch x ≡ stretchOf file (now (s .entry)) r f ⌝ }
+{
+    locate(file, s, r, f)
+}
+
+// That very part of the file; an empty one with any refusal.
+pub fn stretch_part(file: u64, s: &[u8], r: u64, f: u64) -> &[u8]
+    ensures { λ x. ⌜ now x ≡ textOf file (now (s .entry)) r f ⌝ }
+{
+    match locate(file, s, r, f) {
+        Stretch::At(start, size) => {
+            let a = start as usize;
+            let e = a + size as usize;
+            &s[a..e]
+        }
+        Stretch::Refused(_) => &s[..0],
+    }
+}

@@ -1,7 +1,7 @@
 -- What the calendar's calls come back with: for each answer's enum this paper's number and values, and for each call the answer.
 -- A date that isn't real and a day past 73048 are refusal 12, whatever else was asked.
 use Prim.Native.Nat.{ℕ}
-use mathlib.Core.Bool.{Bool, true, false}
+use mathlib.Core.Bool.{Bool}
 use mathlib.Core.List.{List, [], _∷_}
 use Rattle.laws.specs.Tests.{pick}
 use Rattle.laws.specs.Numbered.{Numbered, answered, refused}

@@ -3,7 +3,7 @@
 use Prim.Native.Nat.{ℕ, zero, suc, _+_, _-_, _%_}
 use mathlib.Core.Bool.{Bool, true, false}
 use mathlib.Core.List.{List, [], _∷_}
-use lib.Dec.{eqb, leb}
+use lib.Dec.{eqb, leb, ltb}
 use lib.ListN.{getD}
 use Rattle.laws.specs.Tests.{pick, both}
 
@@ -69,3 +69,15 @@ monthOf n = 1 + lastBegun (monthsDays (yearOf n)) 11 (n - newYear n)
 -- the day of the month of day n
 unfoldable pub dayOf : ℕ → ℕ
 dayOf n = 1 + (n - newYear n - monthsDays (yearOf n) (monthOf n - 1))
+
+-- the date of day n: day, month, year
+abbrev pub dateOf : ℕ → ℕ × ℕ × ℕ
+dateOf n = (dayOf n, monthOf n, yearOf n)
+
+-- the number of such a date
+abbrev pub numberOf : ℕ × ℕ × ℕ → ℕ
+numberOf t = dayNumber (t .0) (t .1) (t .2)
+
+-- the date of the day after day d of month m of year y: in the month, in the next month, or 1 January
+unfoldable pub tomorrow : ℕ → ℕ → ℕ → ℕ × ℕ × ℕ
+tomorrow d m y = pick (ltb d (monthDays y m)) (d + 1, m, y) (pick (ltb m 12) (1, m + 1, y) (1, 1, y + 1))

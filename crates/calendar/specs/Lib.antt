@@ -2,6 +2,8 @@ pub mod Dates
 pub mod Weeks
 pub mod Signs
 pub mod Answers
+pub mod Laws
+pub mod OneResult
 pub mod Counting
 pub mod Real
-pub mod Laws
+pub mod Turns

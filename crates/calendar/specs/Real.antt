@@ -1,6 +1,6 @@
 -- What is known of a real date and of the date of a day: bounds that the laws and the code's proofs cite.
 -- A year is its twelve months, so the days before a date in its year are fewer than the year's; beginnings of years and months never fall.
-use mathlib.Core.Path.{_≡_, refl, sym, ap, subst, _∙_}
+use mathlib.Core.Path.{_≡_, refl, ap, subst}
 use mathlib.Core.Bool.{Bool, true, false}
 use mathlib.Core.Logic.{_≢_}
 use Prim.Native.Nat.{ℕ, zero, suc, _+_, _-_, _≤_, _<_}
@@ -11,7 +11,7 @@ use lib.Dec.{leb, leb→le}
 use lib.ListN.{getD, List·getD-eq-default}
 use Rattle.laws.specs.Below.{below}
 use Rattle.laws.specs.Tests.{pick, both, both-left, both-right, both-true}
-use Rattle.calendar.specs.Dates.{within, leap, yearDays, months, monthDays, isDate, yearsDays, monthsDays, dayNumber, lastBegun, yearOf, newYear, monthOf, dayOf}
+use Rattle.calendar.specs.Dates.{within, leap, yearDays, months, monthDays, isDate, yearsDays, monthsDays, dayNumber, lastBegun, yearOf, newYear, monthOf}
 use Rattle.calendar.specs.Counting.{last-le, last-begun, last-next, last-is, last-top, rises}
 
 within-low : (a x b : ℕ) → within a x b ≡ true → a ≤ x
@@ -20,7 +20,7 @@ within-low a x b e = leb-true _ _ (both-left (leb a x) (leb x b) e)
 within-high : (a x b : ℕ) → within a x b ≡ true → x ≤ b
 within-high a x b e = leb-true _ _ (both-right (leb a x) (leb x b) e)
 
-within-true : (a x b : ℕ) → a ≤ x → x ≤ b → within a x b ≡ true
+pub within-true : (a x b : ℕ) → a ≤ x → x ≤ b → within a x b ≡ true
 within-true a x b p q = both-true _ _ (le-leb _ _ p) (le-leb _ _ q)
 
 -- a real date by its bounds
@@ -245,3 +245,13 @@ short false m h = leb→le _ _ (below 13 (λ (i : ℕ). leb (getD (months 28) i 
 pub month-most : (y m : ℕ) → m < 13 → monthDays y m ≤ 31
 unfolding monthDays
 month-most y m h = short (leap y) m h
+
+long : (t : Bool) (m : ℕ) → m < 12 → 28 ≤ getD (months (pick t 29 28)) (suc m) 0
+unfolding months
+long true m h = leb→le _ _ (below 12 (λ (i : ℕ). leb 28 (getD (months 29) (suc i) 0)) tt m h)
+long false m h = leb→le _ _ (below 12 (λ (i : ℕ). leb 28 (getD (months 28) (suc i) 0)) tt m h)
+
+pub month-least : (y m : ℕ) → 1 ≤ m → m ≤ 12 → 28 ≤ monthDays y m
+unfolding monthDays
+month-least y zero p q = absurd (omega arith)
+month-least y (suc m) p q = long (leap y) m q

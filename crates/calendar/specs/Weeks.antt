@@ -1,7 +1,7 @@
 -- Weekdays and weeks (document 01, "Days"). Day 0 is a Monday. Weeks are those of ISO 8601: they begin on Monday, and week 1 is the one
 -- with the year's first Thursday. So a week belongs to the year of its Thursday, and its number is how many Thursdays that year has had.
 use Prim.Native.Nat.{ℕ, zero, suc, _+_, _-_, _%_}
-use mathlib.Core.Bool.{Bool, true, false}
+use mathlib.Core.Bool.{Bool}
 use lib.Dec.{eqb}
 use Rattle.laws.specs.Tests.{pick}
 use Rattle.calendar.specs.Dates.{yearDays, yearsDays, newYear}

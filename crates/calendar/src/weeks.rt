@@ -2,7 +2,7 @@
 use super::dates;
 ghost use mathlib.Core.Path.{_≡_};
 ghost use Prim.Native.Nat.{_≤_};
-ghost use Rattle.calendar.specs.Weeks.{weekday, weekOf, oddWeek};
+ghost use Rattle.calendar.specs.Weeks.{weekday, weekOf, oddWeek, weeksIn};
 
 // inner: from Monday 1 to Sunday 7
 pub fn weekday(number: u64) -> u64
@@ -27,4 +27,13 @@ pub fn odd_week(number: u64) -> bool
     ensures { λ r. ⌜ r ≡ oddWeek number ⌝ }
 {
     week_number(number) % 2 == 1
+}
+
+// inner: the year's Thursdays, as those before its end less those before its beginning
+pub fn weeks_in(year: u64) -> u64
+    requires { ⌜ (1900 ≤ year) × (year ≤ 2099) ⌝ }
+    ensures { λ r. ⌜ r ≡ weeksIn year ⌝ }
+{
+    let begun = dates::years_days(year - 1900) + 3;
+    (begun + dates::year_days(year)) / 7 - begun / 7
 }

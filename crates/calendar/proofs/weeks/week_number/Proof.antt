@@ -1,11 +1,11 @@
 -- `week_number` meets its contract: its Thursday is the week's, and sevens from that year's 1 January count the year's Thursdays.
 use native.Mathlib.Omega.{arith}
-use mathlib.Core.Path.{_≡_, sym, ap}
+use mathlib.Core.Path.{_≡_, ap}
 use Prim.Native.Nat.{_+_, _-_, _%_}
 use Rattle.calendar.specs.Dates.{newYear}
 use Rattle.calendar.specs.Weeks.{thursdayOf}
 use Rattle.calendar.specs.Real.{year-low, year-high, new-year-at, new-year-before}
-use Rattle.calendar.specs.Laws.{thursday-is, week-is}
+use Rattle.calendar.specs.Turns.{thursday-is, week-is}
 use borrow.Author.Needs.{needs}
 use Rattle.calendar.proofs.weeks.week_number.Statement.{statement}
 use Rattle.calendar.proofs.weeks.week_number.Tie as tie

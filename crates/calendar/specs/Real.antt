@@ -1,6 +1,6 @@
 -- What is known of a real date and of the date of a day: bounds that the laws and the code's proofs cite.
 -- A year is its twelve months, so the days before a date in its year are fewer than the year's; beginnings of years and months never fall.
-use mathlib.Core.Path.{_≡_, refl, ap, subst}
+use mathlib.Core.Path.{_≡_, refl, ap, subst, _∙_}
 use mathlib.Core.Bool.{Bool, true, false}
 use mathlib.Core.Logic.{_≢_}
 use Prim.Native.Nat.{ℕ, zero, suc, _+_, _-_, _≤_, _<_}
@@ -217,9 +217,18 @@ pub month-top : (y k n : ℕ) → k ≡ 11 → monthsDays y k ≤ n → 1 + k �
 month-top y k n e p = omega (arith, last-top (monthsDays y) 11 n (no-months y n) (rw e at p))
 
 -- what the code finds of a day, one after the other
+pub year-found : (n y : ℕ) → y ≡ yearOf n → (1900 ≤ y) × (y ≤ 2099)
+year-found n y e = (omega (arith, year-low n), omega (arith, year-high n))
+
 pub new-year-at : (n y : ℕ) → y ≡ yearOf n → yearsDays (y - 1900) ≡ newYear n
 unfolding newYear
 new-year-at n y e = rw e
+
+pub new-year-found : (n y s : ℕ) → y ≡ yearOf n → s ≡ yearsDays (y - 1900) → s ≡ newYear n
+new-year-found n y s e f = f ∙ new-year-at n y e
+
+pub new-year-passed : (n y s : ℕ) → y ≡ yearOf n → s ≡ yearsDays (y - 1900) → s ≤ n
+new-year-passed n y s e f = omega (arith, new-year-found n y s e f, new-year-before n)
 
 pub month-at : (n y left : ℕ) → y ≡ yearOf n → left ≡ n - newYear n → 1 + lastBegun (monthsDays y) 11 left ≡ monthOf n
 unfolding monthOf

@@ -11,7 +11,7 @@ use Rattle.laws.specs.Tests.{pick, either}
 use Rattle.calendar.specs.Dates.{leap, yearDays, monthDays, isDate, yearsDays, monthsDays, dayNumber, yearOf, newYear, monthOf, dayOf}
 use Rattle.calendar.specs.Weeks.{weekday, mondayOf, thursdayOf, thursdays, weekOf}
 use Rattle.calendar.specs.Counting.{last-is}
-use Rattle.calendar.specs.Real.{real, twelve, year-least, next-year-after, years-to, year-index, years-rise, months-rise, year-next, month-next, number-low, number-high, year-low, year-high, new-year-before}
+use Rattle.calendar.specs.Real.{real, twelve, year-least, next-year-after, years-to, year-index, years-rise, months-rise, year-next, month-next, number-low, number-high, year-low, year-high, new-year-before, new-year-found}
 
 pub in-month : (d m y : ℕ) → 1 ≤ d → dayNumber (d + 1) m y ≡ dayNumber d m y + 1
 unfolding dayNumber
@@ -101,6 +101,12 @@ week-is n =
     let t = thursdayOf n in
     let s = newYear (thursdayOf n) in
     omega (arith, thursday-is n, new-year-before t, thursdays-are s (t - s + 1))
+
+-- the same from what the code finds: the Thursday, its year, that year's 1 January
+pub week-found : (n t y s : ℕ) → t ≡ thursdayOf n → y ≡ yearOf t → s ≡ yearsDays (y - 1900) → (t - s) / 7 + 1 ≡ weekOf n
+week-found n t y s e f g =
+    let h : newYear t ≡ newYear (thursdayOf n) = ap newYear e in
+    omega (arith, week-is n, new-year-found t y s f g)
 
 -- a day of the calendar has its Thursday in the calendar
 pub thursday-in : (n : ℕ) → n ≤ 73048 → thursdayOf n ≤ 73048

@@ -9,6 +9,7 @@ use borrow.Author.Tests.{eq-eqb, ne-eqb}
 use borrow.Author.Needs.{needs}
 use lib.ListN.{length, getD, drop, drop-of-length-le}
 use lib.Seq.{drop-cons}
+use denote.Ref.{now}
 use Rattle.calendar.specs.Signs.{isHoliday}
 use Rattle.calendar.proofs.signs.is_holiday.Statement.{statement}
 use Rattle.calendar.proofs.signs.is_holiday.Tie as tie
@@ -32,14 +33,22 @@ abbrev μ-loop : tie.MeasureT-loop
 μ-loop number holidays i₀ i = length holidays - i
 
 returns : tie.Need-returns Inv-loop μ-loop
-returns c = sym (hit _ _ _ (c .before .before .loop-test .taken) (c .if1 .taken)) ∙ c .before .before .before .loop .inv .1
+returns c =
+    let hs = now (c .before .before .before .before .args .holidays) in
+    let h : c .before .before .before .loop .i < length hs = omega arith in
+    sym (hit hs _ _ h (c .if1 .taken)) ∙ c .before .before .before .loop .inv .1
 
 loop-again : tie.Need-loop-again Inv-loop μ-loop
 loop-again c =
-    (omega arith, sym (miss _ _ _ (c .before .before .loop-test .taken) (c .if1 .left)) ∙ c .before .before .before .loop .inv .1)
+    let hs = now (c .before .before .before .before .args .holidays) in
+    let h : c .before .before .before .loop .i < length hs = omega arith in
+    (omega arith, sym (miss hs _ _ h (c .if1 .left)) ∙ c .before .before .before .loop .inv .1)
 
 returns-2 : tie.Need-returns-2 Inv-loop μ-loop
-returns-2 c = sym (done _ _ _ (c .loop-test .left)) ∙ c .before .loop .inv .1
+returns-2 c =
+    let hs = now (c .before .before .args .holidays) in
+    let h : length hs ≤ c .before .loop .i = omega arith in
+    sym (done hs _ _ h) ∙ c .before .loop .inv .1
 
 pub is-holiday-spec : {M : Type 1} → statement M
 is-holiday-spec =

@@ -1,0 +1,69 @@
+-- What the calendar's calls come back with: for each answer's enum this paper's number and values, and for each call the answer.
+-- A date that isn't real and a day past 73048 are refusal 12, whatever else was asked.
+use Prim.Native.Nat.{ℕ}
+use mathlib.Core.Bool.{Bool}
+use mathlib.Core.List.{List, [], _∷_}
+use Rattle.laws.specs.Tests.{pick}
+use Rattle.laws.specs.Numbered.{Numbered, answered, refused}
+use Rattle.calendar.specs.declared.Day.{Day}
+use Rattle.calendar.specs.declared.Day.the-variants.{At, NotReal}
+use Rattle.calendar.specs.declared.Date.{Date}
+use Rattle.calendar.specs.declared.Date.the-variants.{On, NoDate}
+use Rattle.calendar.specs.declared.DayOfWeek.{DayOfWeek}
+use Rattle.calendar.specs.declared.DayOfWeek.the-variants.{Is, NoWeekday}
+use Rattle.calendar.specs.declared.Week.{Week}
+use Rattle.calendar.specs.declared.Week.the-variants.{Numbered as Counted, NoWeek}
+use Rattle.calendar.specs.declared.Whether.{Whether}
+use Rattle.calendar.specs.declared.Whether.the-variants.{Yes, Not, NoDay}
+use Rattle.calendar.specs.Dates.{isDate, isDay, dayNumber, dayOf, monthOf, yearOf}
+use Rattle.calendar.specs.Weeks.{weekday, weekOf, oddWeek}
+use Rattle.calendar.specs.Signs.{isHoliday, signFits}
+
+-- 1 for yes, 0 for no
+abbrev pub bit : Bool → ℕ
+bit t = pick t 1 0
+
+unfoldable pub numberedDay : Day → Numbered
+numberedDay (At n) = answered (n ∷ [])
+numberedDay NotReal = refused 12
+
+unfoldable pub numberedDate : Date → Numbered
+numberedDate (On d m y) = answered (d ∷ m ∷ y ∷ [])
+numberedDate NoDate = refused 12
+
+unfoldable pub numberedWeekday : DayOfWeek → Numbered
+numberedWeekday (Is w) = answered (w ∷ [])
+numberedWeekday NoWeekday = refused 12
+
+unfoldable pub numberedWeek : Week → Numbered
+numberedWeek (Counted w odd) = answered (w ∷ bit odd ∷ [])
+numberedWeek NoWeek = refused 12
+
+unfoldable pub numberedWhether : Whether → Numbered
+numberedWhether Yes = answered (1 ∷ [])
+numberedWhether Not = answered (0 ∷ [])
+numberedWhether NoDay = refused 12
+
+-- the number of a date
+unfoldable pub dayAnswer : ℕ → ℕ → ℕ → Numbered
+dayAnswer d m y = pick (isDate d m y) (answered (dayNumber d m y ∷ [])) (refused 12)
+
+-- the date of a day: day, month, year
+unfoldable pub dateAnswer : ℕ → Numbered
+dateAnswer n = pick (isDay n) (answered (dayOf n ∷ monthOf n ∷ yearOf n ∷ [])) (refused 12)
+
+-- the weekday of a day
+unfoldable pub weekdayAnswer : ℕ → Numbered
+weekdayAnswer n = pick (isDay n) (answered (weekday n ∷ [])) (refused 12)
+
+-- the week of a day, and whether it is odd
+unfoldable pub weekAnswer : ℕ → Numbered
+weekAnswer n = pick (isDay n) (answered (weekOf n ∷ bit (oddWeek n) ∷ [])) (refused 12)
+
+-- whether a day is in the list of holidays
+unfoldable pub holidayAnswer : ℕ → List ℕ → Numbered
+holidayAnswer n holidays = pick (isDay n) (answered (bit (isHoliday holidays n) ∷ [])) (refused 12)
+
+-- whether a day sign fits a day
+unfoldable pub fitsAnswer : ℕ → ℕ → List ℕ → Numbered
+fitsAnswer sign n holidays = pick (isDay n) (answered (bit (signFits sign n holidays) ∷ [])) (refused 12)

@@ -1,0 +1,17 @@
+-- `slovdrim_week` hands on what `week_of` answers, case by case.
+use borrow.Author.Needs.{needs}
+use Rattle.calendar.specs.Answers.{numberedWeek}
+use Rattle.slovdrim.specs.Days.{weekResult}
+use Rattle.slovdrim.proofs.days.slovdrim_week.Statement.{statement}
+use Rattle.slovdrim.proofs.days.slovdrim_week.Tie as tie
+
+returns : tie.Need-returns
+unfolding weekResult numberedWeek
+returns c = rw (← c .before .before .before .before .week-of .ensures, c .before .before .w .given .1, c .bit-of .ensures)
+
+returns-2 : tie.Need-returns-2
+unfolding weekResult numberedWeek
+returns-2 c = rw (← c .before .before .week-of .ensures, c .enum-told .given .1)
+
+pub slovdrim-week-spec : {M : Type 1} → statement M
+slovdrim-week-spec = tie.close (tie.spec (λ c κs. search needs) (λ c. search needs) (λ c κs. search needs) (λ c. search needs) returns returns-2)

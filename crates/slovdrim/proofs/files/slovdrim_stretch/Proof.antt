@@ -1,0 +1,29 @@
+-- `slovdrim_stretch` hands on what the reader answers, case by case.
+use mathlib.Core.Path.{_≡_, ap, _∙_}
+use borrow.Author.Needs.{needs}
+use Rattle.file.specs.Answers.{numberedStretch}
+use Rattle.slovdrim.specs.Files.{stretchResult}
+use Rattle.slovdrim.proofs.FileResults.{stretchAt, refused-stretch}
+use Rattle.slovdrim.proofs.files.slovdrim_stretch.Statement.{statement}
+use Rattle.slovdrim.proofs.files.slovdrim_stretch.Tie as tie
+
+returns : tie.Need-returns
+unfolding numberedStretch stretchResult
+returns c = rw (← c .before .before .before .stretch-of .ensures, c .before .start .given .1)
+
+returns-2 : tie.Need-returns-2
+unfolding numberedStretch
+returns-2 c =
+    let p = c .before .before in
+    rw (← p .before .before .stretch-of .ensures, p .why .given .1) (ap stretchAt (c .place-of .ensures) ∙ refused-stretch (p .why .given .0 .0))
+
+pub slovdrim-stretch-spec : {M : Type 1} → statement M
+slovdrim-stretch-spec =
+    tie.close
+    (tie.spec
+    (λ c κs. search needs)  -- stretch-of-requires
+    (λ c. search needs)  -- enum-known-start
+    (λ c. search needs)  -- enum-known-why
+    (λ c κs. search needs)  -- place-of-requires
+    returns
+    returns-2)

@@ -3,7 +3,7 @@
 #   need COMMAND PACKAGE..   installs Debian packages, if the command is missing
 #   need_c, need_tests       what C programs over the archive need, and what the tests need besides
 #   kit                      the folder of the Rattle kit that `rt` belongs to
-#   CC, LINK, RUN            the C compiler for x86-64, what it is told when it links, and what runs its programs (arrays)
+#   CC, CXX, NM, LINK, RUN   the compilers and nm for x86-64, what they are told when they link, and what runs their programs (arrays)
 #   archive NAME             proves the crate and leaves target/staticlib/libNAME.a
 #
 # Programs over the archive are for x86-64. On another machine they are compiled by a cross compiler, linked statically, since there is no x86-64
@@ -51,11 +51,13 @@ need_tests() {
 if [ "$machine" = x86_64 ]; then
     CC=(gcc)
     CXX=(g++)
+    NM=(nm)
     LINK=()
     RUN=()
 else
     CC=(x86_64-linux-gnu-gcc)
     CXX=(x86_64-linux-gnu-g++)
+    NM=(x86_64-linux-gnu-nm)
     LINK=(-static)
     RUN=("$kit/on/$machine/toolchain/bin/qemu-x86_64")
 fi

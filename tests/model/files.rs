@@ -92,7 +92,7 @@ pub fn self_check() -> u64 {
         let n = FIELDS[i % 13];
         let many = r.below(3);
         let legal = writing(&records(&mut r, n, many, 2));
-        if legal.len() < 120 {
+        if legal.len() < 60 {
             agreement(n, &legal);
             agreement(n, &damaged(&mut r, &legal));
             count += 2;

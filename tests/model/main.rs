@@ -105,6 +105,10 @@ fn compare_files(command: &[String]) -> Report {
     step(&mut report, command, "files around the longest", files::long_files);
     step(&mut report, command, "the writer", files::writer);
     step(&mut report, command, "rewriting", files::rewriting);
+    if report.differences > 0 {
+        println!("the sweeps are left out, since there are differences already");
+        return report;
+    }
     for (file, longest, stretches_to, parts) in SWEEPS {
         let name = format!("every beginning and one byte more, file {} to {} bytes", file, longest);
         step(&mut report, command, &name, |l| sweep::sweep(l, file, longest, stretches_to, parts));
@@ -125,13 +129,16 @@ fn compare_days(command: &[String]) -> Report {
     report
 }
 
-/// Prints how often each answer was met; one that never was is a fault of the run.
+/// Prints how often each answer was met; one that never was is a fault of the run, unless differences have kept it from being met.
 fn told(report: &mut Report, met: &'static [(&'static str, u64, &'static str)], weeks: bool) {
     for key in met {
         report.tally.entry(*key).or_insert(0);
     }
     for ((call, number, detail), n) in &report.tally {
         println!("  {:<24} {:>2} {:<22} {:>11}", call, number, detail, n);
+    }
+    if report.differences > 0 {
+        return;
     }
     let never: Vec<String> = report.tally.iter().filter(|(_, &n)| n == 0).map(|((call, number, detail), _)| format!("{} {} {}", call, number, detail)).collect();
     for n in never {

@@ -17,12 +17,12 @@ need() {
     local command=$1
     shift
     if command -v "$command" > /dev/null; then return 0; fi
-    local root=()
-    [ "$(id -u)" = 0 ] || root=(sudo)
+    local as_root=()
+    [ "$(id -u)" = 0 ] || as_root=(sudo)
     echo "installing $* for $command"
     # The lists of packages may be missing or old on a fresh machine.
-    "${root[@]}" apt-get update -qq > /dev/null || true
-    DEBIAN_FRONTEND=noninteractive "${root[@]}" apt-get install -y -qq --no-install-recommends "$@" > /dev/null
+    "${as_root[@]}" apt-get update -qq > /dev/null || true
+    DEBIAN_FRONTEND=noninteractive "${as_root[@]}" apt-get install -y -qq --no-install-recommends "$@" > /dev/null
     command -v "$command" > /dev/null || { echo "$command is missing, and $* did not bring it" >&2; exit 1; }
 }
 

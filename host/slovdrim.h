@@ -1,0 +1,249 @@
+/*
+ * slovdrim.h: the C interface of Slovdrim, a proved library for Czech bus timetables in the JDF 1.8 format.
+ *
+ * This version reads and writes the bytes of one file of a batch, and counts days. Each call answers exactly what its comment says, for every
+ * input, or comes back with one numbered refusal; nothing is guessed and nothing is repaired.
+ *
+ * For all calls:
+ *
+ *  - Results are structs of 64-bit numbers, returned by value. `number` is 0 for an answer and otherwise one of the SLOVDRIM_ numbers below.
+ *    A member that the number doesn't speak of is 0: after a refusal only the place that its comment names is set, after an answer only what was
+ *    asked for.
+ *  - Records and fields count from 1. Offsets and places count bytes from 0. Day 0 is 1 January 1900.
+ *  - Any number may be passed for a file, record, field, place, day, month, year or sign. Those that name nothing are refused, never undefined.
+ *  - A pointer is lent for the time of the call: the library keeps no pointer, allocates nothing and frees nothing. `length` bytes (or `count` numbers)
+ *    from the pointer on must be readable, and for `buffer` writable. NULL is allowed where the length or count is 0. A pointer to uint64_t must be
+ *    aligned for it.
+ *  - Lent bytes must not change during a call, by another thread or otherwise. Memory lent as const is never written to.
+ *    `buffer` must not overlap `text`. Two inputs of a call may overlap.
+ *  - The library has no state at all: no globals, no set-up, no locks, no errno. Calls may be made from any number of threads at once, and from
+ *    a signal handler.
+ *
+ * Link with libslovdrim.a. The archive is for x86-64 Linux only (System V calling convention).
+ */
+#ifndef SLOVDRIM_H
+#define SLOVDRIM_H
+
+#include <stddef.h>
+#include <stdint.h>
+
+#if !defined(__x86_64__) && !defined(SLOVDRIM_OTHER_MACHINE)
+#error "libslovdrim.a is for x86-64"
+#endif
+
+#ifdef __cplusplus
+extern "C" {
+#endif
+
+/*
+ * The files of a batch, in its fixed order, with the number of fields of a record.
+ */
+#define SLOVDRIM_VERZEJDF 1 /*  1 field  */
+#define SLOVDRIM_ZASTAVKY 2 /* 12 fields */
+#define SLOVDRIM_PEVNYKOD 3 /*  3 fields */
+#define SLOVDRIM_DOPRAVCI 4 /* 11 fields */
+#define SLOVDRIM_LINKY 5    /* 10 fields */
+#define SLOVDRIM_SPOJE 6    /* 12 fields */
+#define SLOVDRIM_ZASLINKY 7 /*  7 fields */
+#define SLOVDRIM_ZASSPOJE 8 /* 10 fields */
+#define SLOVDRIM_UDAJE 9    /*  3 fields */
+#define SLOVDRIM_CASKODY 10 /*  8 fields */
+#define SLOVDRIM_ALTDOP 11  /* 13 fields */
+#define SLOVDRIM_ALTLINKY 12 /* 3 fields */
+#define SLOVDRIM_MISTENKY 13 /* 3 fields */
+
+/*
+ * The longest file that is read, in bytes.
+ */
+#define SLOVDRIM_LONGEST 16777215
+
+/*
+ * The numbers that a call can come back with. Numbers not listed are not used by this version.
+ */
+#define SLOVDRIM_ANSWER 0           /* no refusal */
+#define SLOVDRIM_TOO_LONG 1         /* the file has more than SLOVDRIM_LONGEST bytes; place: file */
+#define SLOVDRIM_NOT_LEGAL 2        /* no legal file goes on with this byte; place: file, offset of the byte */
+#define SLOVDRIM_ENDS_INSIDE 3      /* the file ends inside a record; place: file, offset = length of the file */
+#define SLOVDRIM_NO_SUCH_DAY 12     /* a date that isn't real or not of 1900-2099, or a day number past SLOVDRIM_LAST_DAY; no place */
+#define SLOVDRIM_NO_SUCH 20         /* no such file, record or field; no place */
+#define SLOVDRIM_TEXT_NOT_PERMITTED 21 /* the text can't stand in a field; no place */
+#define SLOVDRIM_NO_ROOM 22         /* the field doesn't fit into the buffer from the place on; no place */
+
+/*
+ * The bytes of a file.
+ *
+ * A field is a quote, a text, a quote. A comma follows each field but the record's last, and semicolon, CR, LF follow that one. A legal file is any
+ * number of records, each with exactly its file's number of fields, and nothing else; so the empty file is legal and has no records. A text is
+ * of the bytes 32-126 and 128-255 without 0x81, 0x83, 0x88, 0x90 and 0x98 (they have no meaning in CP1250), and holds no quote directly followed by
+ * a comma or a semicolon. Other quotes stand as they are, and nothing is undoubled: in  "U "lipy" 3"  the text is  U "lipy" 3 .
+ *
+ * A legal file can be read in one way only.
+ */
+
+typedef struct {
+    uint64_t number;
+    uint64_t file;
+    uint64_t record;
+    uint64_t field;
+    uint64_t offset;
+    uint64_t records;
+} slovdrim_records_answer;
+
+/*
+ * The number of records of a file.
+ *
+ *   SLOVDRIM_ANSWER       `records` is the number of records of the legal file.
+ *   SLOVDRIM_NO_SUCH      `file` is not 1 to 13.
+ *   SLOVDRIM_TOO_LONG     `file` is set.
+ *   SLOVDRIM_NOT_LEGAL    `file` and `offset` are set: some legal file begins with the bytes before `offset`, and none goes on with the byte there.
+ *   SLOVDRIM_ENDS_INSIDE  `file` and `offset` are set, `offset` being `length`: some legal file begins with all the bytes, but they aren't one.
+ *
+ * The first that applies, in this order of tests: NO_SUCH, TOO_LONG, then one of the last two. It takes one pass over the bytes; TOO_LONG reads none.
+ */
+slovdrim_records_answer slovdrim_records(uint64_t file, const uint8_t *bytes, size_t length);
+
+typedef struct {
+    uint64_t number;
+    uint64_t file;
+    uint64_t record;
+    uint64_t field;
+    uint64_t offset;
+    uint64_t start;
+    uint64_t length;
+} slovdrim_stretch_answer;
+
+/*
+ * Where the text of one field stands: without its quotes, as a stretch of the file itself. The text is bytes[start] to bytes[start + length - 1].
+ *
+ *   SLOVDRIM_ANSWER       `start` and `length` are set; the length may be 0.
+ *   SLOVDRIM_NO_SUCH      `file` is not 1 to 13; or the file is legal and has no such record, or its records have no such field.
+ *   SLOVDRIM_TOO_LONG, SLOVDRIM_NOT_LEGAL, SLOVDRIM_ENDS_INSIDE  as for slovdrim_records: no stretch is given of a file that isn't legal to its end.
+ *
+ * Tested in this order: the file's number, the file's bytes, the record's and the field's numbers. One pass over the bytes for each call.
+ */
+slovdrim_stretch_answer slovdrim_stretch(uint64_t file, const uint8_t *bytes, size_t length, uint64_t record, uint64_t field);
+
+typedef struct {
+    uint64_t number;
+    uint64_t place;
+} slovdrim_write_answer;
+
+/*
+ * Writes one field into the middle of a buffer: quote, text, quote and a comma, from `place` on; or for the last field of the file's records
+ * quote, text, quote, semicolon, CR, LF.
+ *
+ *   SLOVDRIM_ANSWER              `place` is the place after what was written: text_length + 3 further on, or + 5 for a last field.
+ *   SLOVDRIM_NO_SUCH             `file` is not 1 to 13, or its records have no such field.
+ *   SLOVDRIM_TEXT_NOT_PERMITTED  the text holds a byte that a text can't, or a quote directly followed by a comma or a semicolon.
+ *   SLOVDRIM_NO_ROOM             fewer bytes than that are left from `place` on, or `place` is not inside the buffer.
+ *
+ * Tested in this order. No byte of the buffer changes but those of the field; on a refusal none does.
+ * Fields written one after the other, each at the place that the last call answered, make a legal file.
+ */
+slovdrim_write_answer slovdrim_write(uint64_t file, uint64_t field, const uint8_t *text, size_t text_length, uint8_t *buffer, size_t buffer_length,
+                                     uint64_t place);
+
+/*
+ * The version of this interface: SLOVDRIM_VERSION of the header that the library was made with. It never refuses.
+ */
+#define SLOVDRIM_VERSION 1
+uint64_t slovdrim_version(void);
+
+/*
+ * Days.
+ *
+ * The calendar has the Gregorian dates of 1900 to 2099. Day 0 is 1 January 1900, a Monday. Every call that takes a day number comes back with
+ * SLOVDRIM_NO_SUCH_DAY for one past SLOVDRIM_LAST_DAY, and with no other refusal.
+ */
+#define SLOVDRIM_LAST_DAY 73048 /* 31 December 2099 */
+
+typedef struct {
+    uint64_t number;
+    uint64_t day;
+} slovdrim_day_answer;
+
+/*
+ * The day number of a date: `day` is set. SLOVDRIM_NO_SUCH_DAY if the date isn't real (30 February) or isn't of 1900-2099.
+ */
+slovdrim_day_answer slovdrim_day(uint64_t day, uint64_t month, uint64_t year);
+
+typedef struct {
+    uint64_t number;
+    uint64_t day;
+    uint64_t month;
+    uint64_t year;
+} slovdrim_date_answer;
+
+/*
+ * The date of a day number: `day`, `month` and `year` are set. The inverse of slovdrim_day.
+ */
+slovdrim_date_answer slovdrim_date(uint64_t day_number);
+
+typedef struct {
+    uint64_t number;
+    uint64_t weekday;
+} slovdrim_weekday_answer;
+
+/*
+ * The weekday: `weekday` is 1 for Monday to 7 for Sunday.
+ */
+slovdrim_weekday_answer slovdrim_weekday(uint64_t day_number);
+
+typedef struct {
+    uint64_t number;
+    uint64_t week;
+    uint64_t odd;
+} slovdrim_week_answer;
+
+/*
+ * The week by ISO 8601: `week` is 1 to 53, `odd` is 1 if that is an odd number and 0 if not. The week that a year begins or ends in may belong to the
+ * year before or after; after week 53 comes week 1, so that odd may follow odd.
+ */
+slovdrim_week_answer slovdrim_week(uint64_t day_number);
+
+typedef struct {
+    uint64_t number;
+    uint64_t holiday;
+} slovdrim_holiday_answer;
+
+/*
+ * Whether a day is in a list of holidays: `holiday` is 1 or 0. Any list is taken: in any order, with repeats, with numbers past the calendar.
+ */
+slovdrim_holiday_answer slovdrim_holiday(uint64_t day_number, const uint64_t *holidays, size_t count);
+
+typedef struct {
+    uint64_t number;
+    uint64_t fits;
+} slovdrim_fits_answer;
+
+/*
+ * Whether a day sign fits a day: `fits` is 1 or 0. 'X': Monday to Friday and no holiday. '+': Sunday or holiday. '1' to '7': that weekday, holiday
+ * or not. A byte that is no day sign fits no day.
+ */
+slovdrim_fits_answer slovdrim_fits(uint8_t sign, uint64_t day_number, const uint64_t *holidays, size_t count);
+
+/*
+ * The layouts that the archive was made with.
+ */
+#ifdef __cplusplus
+#define SLOVDRIM_LAYOUT(condition, text) static_assert(condition, text)
+#else
+#define SLOVDRIM_LAYOUT(condition, text) _Static_assert(condition, text)
+#endif
+SLOVDRIM_LAYOUT(sizeof(size_t) == 8 && sizeof(void *) == 8, "lengths and pointers have 64 bits");
+SLOVDRIM_LAYOUT(sizeof(slovdrim_records_answer) == 48 && offsetof(slovdrim_records_answer, records) == 40, "layout of slovdrim_records_answer");
+SLOVDRIM_LAYOUT(sizeof(slovdrim_stretch_answer) == 56 && offsetof(slovdrim_stretch_answer, length) == 48, "layout of slovdrim_stretch_answer");
+SLOVDRIM_LAYOUT(sizeof(slovdrim_write_answer) == 16 && offsetof(slovdrim_write_answer, place) == 8, "layout of slovdrim_write_answer");
+SLOVDRIM_LAYOUT(sizeof(slovdrim_day_answer) == 16 && offsetof(slovdrim_day_answer, day) == 8, "layout of slovdrim_day_answer");
+SLOVDRIM_LAYOUT(sizeof(slovdrim_date_answer) == 32 && offsetof(slovdrim_date_answer, year) == 24, "layout of slovdrim_date_answer");
+SLOVDRIM_LAYOUT(sizeof(slovdrim_weekday_answer) == 16 && offsetof(slovdrim_weekday_answer, weekday) == 8, "layout of slovdrim_weekday_answer");
+SLOVDRIM_LAYOUT(sizeof(slovdrim_week_answer) == 24 && offsetof(slovdrim_week_answer, odd) == 16, "layout of slovdrim_week_answer");
+SLOVDRIM_LAYOUT(sizeof(slovdrim_holiday_answer) == 16 && offsetof(slovdrim_holiday_answer, holiday) == 8, "layout of slovdrim_holiday_answer");
+SLOVDRIM_LAYOUT(sizeof(slovdrim_fits_answer) == 16 && offsetof(slovdrim_fits_answer, fits) == 8, "layout of slovdrim_fits_answer");
+#undef SLOVDRIM_LAYOUT
+
+#ifdef __cplusplus
+}
+#endif
+
+#endif

@@ -1,0 +1,189 @@
+//! An independent implementation of document 01, "Bytes of a file" and "Days", and its comparison with the library.
+//!
+//!     model compare files|days DRIVER ARGUMENTS..   ask the driver everything and compare
+//!     model almanac                                 every day of the model's own calendar, a line each
+//!
+//! It was written from document 01 alone. It needs nothing but Rust's standard library.
+
+mod calendar;
+mod days;
+mod files;
+mod format;
+mod generator;
+mod link;
+mod sweep;
+
+use std::time::Instant;
+
+use calendar::Calendar;
+use link::{Link, Report};
+
+/// Each answer and each refusal that a run must have met: the call, the number, and what is told apart within it.
+const FILES_MET: &[(&str, u64, &str)] = &[
+    ("slovdrim_records", 0, "no records"),
+    ("slovdrim_records", 0, "records"),
+    ("slovdrim_records", 1, ""),
+    ("slovdrim_records", 2, ""),
+    ("slovdrim_records", 3, ""),
+    ("slovdrim_records", 20, ""),
+    ("slovdrim_stretch", 0, "a text"),
+    ("slovdrim_stretch", 0, "an empty text"),
+    ("slovdrim_stretch", 1, ""),
+    ("slovdrim_stretch", 2, ""),
+    ("slovdrim_stretch", 3, ""),
+    ("slovdrim_stretch", 20, "file"),
+    ("slovdrim_stretch", 20, "record or field"),
+    ("slovdrim_write", 0, "a field before others"),
+    ("slovdrim_write", 0, "a last field"),
+    ("slovdrim_write", 20, "file"),
+    ("slovdrim_write", 20, "field"),
+    ("slovdrim_write", 21, ""),
+    ("slovdrim_write", 22, ""),
+    ("rewriting", 0, ""),
+    ("rewriting", 22, ""),
+    ("swept slovdrim_records", 0, ""),
+    ("swept slovdrim_records", 2, ""),
+    ("swept slovdrim_records", 3, ""),
+    ("swept slovdrim_stretch", 0, ""),
+    ("swept slovdrim_stretch", 2, ""),
+    ("swept slovdrim_stretch", 3, ""),
+    ("swept slovdrim_stretch", 20, ""),
+];
+
+const DAYS_MET: &[(&str, u64, &str)] = &[
+    ("slovdrim_day", 0, ""),
+    ("slovdrim_day", 12, ""),
+    ("slovdrim_date", 0, ""),
+    ("slovdrim_date", 12, ""),
+    ("slovdrim_weekday", 0, "Mon"),
+    ("slovdrim_weekday", 0, "Tue"),
+    ("slovdrim_weekday", 0, "Wed"),
+    ("slovdrim_weekday", 0, "Thu"),
+    ("slovdrim_weekday", 0, "Fri"),
+    ("slovdrim_weekday", 0, "Sat"),
+    ("slovdrim_weekday", 0, "Sun"),
+    ("slovdrim_weekday", 12, ""),
+    ("slovdrim_week", 0, "odd"),
+    ("slovdrim_week", 0, "even"),
+    ("slovdrim_week", 12, ""),
+    ("slovdrim_holiday", 0, "yes"),
+    ("slovdrim_holiday", 0, "no"),
+    ("slovdrim_holiday", 12, ""),
+    ("slovdrim_fits", 0, "X yes"),
+    ("slovdrim_fits", 0, "X no"),
+    ("slovdrim_fits", 0, "+ yes"),
+    ("slovdrim_fits", 0, "+ no"),
+    ("slovdrim_fits", 0, "1-7 yes"),
+    ("slovdrim_fits", 0, "1-7 no"),
+    ("slovdrim_fits", 0, "no day sign"),
+    ("slovdrim_fits", 12, ""),
+];
+
+/// The sweeps: file 1 to 11 bytes, file 3 to 16.
+const SWEEPS: [(u64, usize, usize, usize); 2] = [(1, 11, 11, 2), (3, 16, 12, 6)];
+
+fn step(report: &mut Report, command: &[String], name: &str, ask: impl FnOnce(&mut Link)) {
+    let began = Instant::now();
+    let mut link = Link::start(command);
+    ask(&mut link);
+    let part = link.finish();
+    println!("{}: {} compared, {:.1} s", name, part.comparisons, began.elapsed().as_secs_f64());
+    report.add(part);
+}
+
+fn compare_files(command: &[String]) -> Report {
+    let mut report = Report::default();
+    let began = Instant::now();
+    println!("the model beside itself: {} strings, {:.1} s", files::self_check(), began.elapsed().as_secs_f64());
+    step(&mut report, command, "small facts", |l| {
+        files::version(l);
+        files::small_facts(l);
+    });
+    step(&mut report, command, "odd file, record and field numbers", files::odd_numbers);
+    step(&mut report, command, "legal files with every single change", files::single_changes);
+    step(&mut report, command, "random files and damage", files::random_files);
+    step(&mut report, command, "files around the longest", files::long_files);
+    step(&mut report, command, "the writer", files::writer);
+    step(&mut report, command, "rewriting", files::rewriting);
+    if report.differences > 0 {
+        println!("the sweeps are left out, since there are differences already");
+        return report;
+    }
+    for (file, longest, stretches_to, parts) in SWEEPS {
+        let name = format!("every beginning and one byte more, file {} to {} bytes", file, longest);
+        step(&mut report, command, &name, |l| sweep::sweep(l, file, longest, stretches_to, parts));
+    }
+    for s in std::mem::take(&mut report.sweeps).iter().take(3) {
+        report.add(sweep::closer(command, s));
+    }
+    report
+}
+
+fn compare_days(command: &[String]) -> Report {
+    let mut report = Report::default();
+    let calendar = Calendar::new();
+    step(&mut report, command, "small facts", |l| days::small_facts(l, &calendar));
+    step(&mut report, command, "every day", |l| days::every_day(l, &calendar));
+    step(&mut report, command, "dates, real and not", |l| days::dates(l, &calendar));
+    step(&mut report, command, "holidays and signs", |l| days::holidays(l, &calendar));
+    report
+}
+
+/// Prints how often each answer was met; one that never was is a fault of the run, unless differences have kept it from being met.
+fn told(report: &mut Report, met: &'static [(&'static str, u64, &'static str)], weeks: bool) {
+    for key in met {
+        report.tally.entry(*key).or_insert(0);
+    }
+    for ((call, number, detail), n) in &report.tally {
+        println!("  {:<24} {:>2} {:<22} {:>11}", call, number, detail, n);
+    }
+    if report.differences > 0 {
+        return;
+    }
+    let never: Vec<String> = report.tally.iter().filter(|(_, &n)| n == 0).map(|((call, number, detail), _)| format!("{} {} {}", call, number, detail)).collect();
+    for n in never {
+        report.differs(&format!("never met: {}", n));
+    }
+    if weeks {
+        for week in 1..=53 {
+            if !report.weeks.contains_key(&week) {
+                report.differs(&format!("never met: week {}", week));
+            }
+        }
+        println!("  {} different week numbers, the rarest {} times", report.weeks.len(), report.weeks.values().min().unwrap_or(&0));
+    }
+}
+
+fn main() {
+    let arguments: Vec<String> = std::env::args().skip(1).collect();
+    let words: Vec<&str> = arguments.iter().map(|a| a.as_str()).collect();
+    let mut report = match words[..] {
+        ["almanac"] => {
+            for (i, d) in Calendar::new().days.iter().enumerate() {
+                println!("{} {} {} {} {} {}", i, d.day, d.month, d.year, d.weekday, d.week);
+            }
+            return;
+        }
+        ["compare", "files", _, ..] => {
+            let mut report = compare_files(&arguments[2..]);
+            told(&mut report, FILES_MET, false);
+            report
+        }
+        ["compare", "days", _, ..] => {
+            let mut report = compare_days(&arguments[2..]);
+            told(&mut report, DAYS_MET, true);
+            report
+        }
+        _ => {
+            eprintln!("model compare files|days DRIVER ARGUMENTS.. | model almanac");
+            std::process::exit(2);
+        }
+    };
+    if report.comparisons == 0 {
+        report.differs("nothing was compared");
+    }
+    println!("{} comparisons, {} differences", report.comparisons, report.differences);
+    if report.differences > 0 {
+        std::process::exit(1);
+    }
+}

@@ -1,0 +1,74 @@
+# What .ci/run, tests/run, bench/run and show have in common; they read it with `.` from the root of the repository.
+#
+#   need COMMAND PACKAGE..   installs Debian packages, if the command is missing
+#   need_c, need_tests       what C programs over the archive need, and what the tests need besides
+#   kit                      the folder of the Rattle kit that `rt` belongs to
+#   CC, CXX, NM, LINK, RUN   the compilers and nm for x86-64, what they are told when they link, and what runs their programs (arrays)
+#   archive NAME             proves the crate and leaves target/staticlib/libNAME.a
+#
+# Programs over the archive are for x86-64. On another machine they are compiled by a cross compiler, linked statically, since there is no x86-64
+# C library to load, and run under the kit's emulator.
+
+command -v rt > /dev/null || { echo "rt, the command of the Rattle kit, is not on the path" >&2; exit 1; }
+kit=$(cd "$(dirname "$(readlink -f "$(command -v rt)")")/.." && pwd)
+machine=$(uname -m)
+
+need() {
+    local command=$1
+    shift
+    if command -v "$command" > /dev/null; then return 0; fi
+    local as_root=()
+    [ "$(id -u)" = 0 ] || as_root=(sudo)
+    echo "installing $* for $command"
+    # The lists of packages may be missing or old on a fresh machine.
+    "${as_root[@]}" apt-get update -qq > /dev/null || true
+    DEBIAN_FRONTEND=noninteractive "${as_root[@]}" apt-get install -y -qq --no-install-recommends "$@" > /dev/null
+    command -v "$command" > /dev/null || { echo "$command is missing, and $* did not bring it" >&2; exit 1; }
+}
+
+need_c() {
+    need make make
+    if [ "$machine" = x86_64 ]; then
+        need gcc gcc libc6-dev
+    else
+        need x86_64-linux-gnu-gcc gcc-x86-64-linux-gnu libc6-dev-amd64-cross
+    fi
+}
+
+need_tests() {
+    need_c
+    if [ "$machine" = x86_64 ]; then
+        need g++ g++
+    else
+        need x86_64-linux-gnu-g++ g++-x86-64-linux-gnu libc6-dev-amd64-cross
+        # rustc links the model, which runs natively
+        need cc gcc libc6-dev
+    fi
+    need rustc rustc
+    need python3 python3
+}
+
+if [ "$machine" = x86_64 ]; then
+    CC=(gcc)
+    CXX=(g++)
+    NM=(nm)
+    LINK=()
+    RUN=()
+else
+    CC=(x86_64-linux-gnu-gcc)
+    CXX=(x86_64-linux-gnu-g++)
+    NM=(x86_64-linux-gnu-nm)
+    LINK=(-static)
+    RUN=("$kit/on/$machine/toolchain/bin/qemu-x86_64")
+fi
+
+archive() {
+    local log
+    log=$(mktemp)
+    if ! rt staticlib "$1" > "$log" 2>&1; then
+        cat "$log" >&2
+        rm -f "$log"
+        return 1
+    fi
+    rm -f "$log"
+}

@@ -1,19 +1,18 @@
 -- Laws of the reader's answers: which refusal comes first, what an answer says of the reading, and that `numbered` tells all cases apart.
-use mathlib.Core.Path.{_≡_, refl, sym, ap, _∙_}
+use mathlib.Core.Path.{_≡_, refl, ap, _∙_}
 use mathlib.Core.Bool.{Bool, true, false}
 use mathlib.Core.List.{List, [], _∷_}
-use Prim.Native.Nat.{ℕ, zero, suc, _+_, _-_, _*_, _≤_, _<_}
-use native.Mathlib.Nat.{mul-le-mul-right}
+use Prim.Native.Nat.{ℕ, _≤_, _<_}
 use native.Mathlib.Omega.{arith}
 use lib.Dec.{eqb, leb, T}
-use lib.ListN.{length, getD, length-append}
-use borrow.Author.Tests.{eq-eqb, ne-eqb, le-leb, lt-leb, leb-true, leb-false}
-use Rattle.laws.specs.Below.{all, below}
+use lib.ListN.{length}
+use borrow.Author.Tests.{ne-eqb, le-leb, lt-leb, leb-true}
+use Rattle.laws.specs.Below.{below}
 use Rattle.laws.specs.Numbered.{Numbered, answered, refused, refusedAt}
-use Rattle.laws.specs.Tests.{pick, both, oneOf, either, clash, both-left, both-right, both-true}
-use Rattle.file.specs.Answers.{numbered, numberedCounted, asked, counted, located, spanOf}
-use Rattle.file.specs.Files.{among, isFile, fieldCounts, fieldsOf, longest}
-use Rattle.file.specs.Reading.{State, fresh, step, run, Span, finishedIn, spans, reading}
+use Rattle.laws.specs.Tests.{oneOf, either, clash, both-left, both-right, both-true}
+use Rattle.file.specs.Answers.{numbered, asked, counted, located}
+use Rattle.file.specs.Files.{isFile, fieldCounts, fieldsOf, longest}
+use Rattle.file.specs.Reading.{reading}
 use Rattle.file.specs.declared.Outcome.{Outcome}
 use Rattle.file.specs.declared.Outcome.the-variants.{Whole, Unfit, CutShort}
 use Rattle.file.specs.declared.Refusal.{Refusal}

@@ -2,19 +2,18 @@
 -- asked for is among them.
 use mathlib.Core.Path.{_≡_, refl, sym, ap, _∙_}
 use mathlib.Core.Bool.{Bool, true, false}
-use mathlib.Core.List.{List, [], _∷_, _++_}
-use Prim.Native.Nat.{ℕ, zero, suc, _+_, _-_, _*_, _≤_, _<_}
+use mathlib.Core.List.{List, [], _∷_}
+use Prim.Native.Nat.{ℕ, suc, _+_, _-_, _*_, _≤_, _<_}
 use native.Mathlib.Nat.{mul-le-mul-right}
 use native.Mathlib.Omega.{arith}
 use lib.Dec.{eqb, leb}
-use lib.ListN.{length, getD, length-append}
+use lib.ListN.{length, length-append}
 use borrow.Author.Tests.{le-leb, lt-leb}
 use Rattle.laws.specs.Numbered.{answered, refused}
-use Rattle.laws.specs.Tests.{pick, both, either}
+use Rattle.laws.specs.Tests.{pick, both}
 use Rattle.file.specs.Answers.{spanOf}
 use Rattle.file.specs.Bytes.{quote, ends}
 use Rattle.file.specs.Files.{among}
-use Rattle.file.specs.Format.{Fields, written, Permitted}
 use Rattle.file.specs.Reader.{Reads, Sought, textIn, textSpan}
 use Rattle.file.specs.Reading.{Mode, opening, within, quoted, returning, feeding, stopped, State, fresh, isLast, follows, step, Span, finishedIn, spans, reading}
 use Rattle.file.specs.declared.Outcome.the-variants.{Whole}

@@ -1,8 +1,7 @@
 -- Which beginnings are beginnings of legal files: each that the reading gets through, since every state can be completed, and none
 -- beyond the byte at which it stops, since a reading that stopped stays so.
 use mathlib.Core.Path.{_≡_, refl, sym, ap, _∙_, subst}
-use mathlib.Core.Bool.{Bool, true, false}
-use mathlib.Core.List.{List, [], _∷_, _++_, append-nil}
+use mathlib.Core.List.{List, [], _∷_, _++_}
 use mathlib.Core.Logic.{_⊎_, inl, inr}
 use Prim.Native.Nat.{ℕ, zero, suc, _+_, _-_, _≤_, _<_}
 use native.Mathlib.Nat.{add-zero}
@@ -10,14 +9,14 @@ use native.Mathlib.Omega.{arith}
 use lib.Dec.{eqb}
 use lib.ListN.{length, take}
 use borrow.Author.Tests.{eqb-true, eqb-false}
-use Rattle.laws.specs.Tests.{pick, either}
+use Rattle.laws.specs.Tests.{either}
 use Rattle.file.specs.Bytes.{quote, comma, semicolon, CR, LF, ends, permittedByte, permittedText}
 use Rattle.file.specs.Format.{Fields, writtenRecord, PermittedTexts}
 use Rattle.file.specs.Fields.{closing, nextField, nextRecord}
-use Rattle.file.specs.Reading.{Mode, opening, within, quoted, returning, feeding, stopped, State, state, isLast, follows, inText, afterText, stepIn, step, run, outcomeIn, outcome}
-use Rattle.file.specs.declared.Outcome.the-variants.{Whole, Unfit, CutShort}
+use Rattle.file.specs.Reading.{Mode, opening, within, quoted, returning, feeding, stopped, State, state, isLast, inText, afterText, stepIn, step, run, outcomeIn, outcome}
+use Rattle.file.specs.declared.Outcome.the-variants.{Unfit, CutShort}
 use Rattle.file.proofs.StepLaws.{TextMode, run-cons, stays, closed-run}
-use Rattle.file.proofs.ReadBack.{Over, record-read}
+use Rattle.file.proofs.ReadBack.{record-read}
 use Rattle.file.proofs.Sound.{IsWhole, Room}
 
 pub run-append : (n : ℕ) (x : List ℕ) (st : State) (y : List ℕ) → run n st (x ++ y) ≡ run n (run n st x) y

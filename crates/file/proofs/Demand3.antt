@@ -1,8 +1,7 @@
 -- Demand 3: a file can be read in one way only. Over any number n of fields in a record, n at least 1; then for the thirteen files.
 use mathlib.Core.Path.{_≡_, refl, sym, ap, _∙_, subst}
-use mathlib.Core.Bool.{true}
-use mathlib.Core.List.{List, [], _∷_, _++_, append-assoc}
-use mathlib.Core.Logic.{_↔_, _⊎_, inl, inr, ⊎-elim}
+use mathlib.Core.List.{List, _++_, append-assoc}
+use mathlib.Core.Logic.{_↔_, _⊎_, inl, inr}
 use Prim.Native.Nat.{ℕ, suc, _+_, _-_, _≤_, _<_}
 use native.Mathlib.Nat.{zero-add}
 use native.Mathlib.Omega.{arith}
@@ -10,8 +9,7 @@ use lib.ListN.{length, take, drop}
 use lib.Seq.{take-all, take-add}
 use Rattle.file.specs.Format.{Fields, written, Permitted, Legal, Begins}
 use Rattle.file.specs.Places.{Gives}
-use Rattle.file.specs.Reading.{opening, fresh, State, run, outcome, reading}
-use Rattle.file.specs.declared.Outcome.{Outcome}
+use Rattle.file.specs.Reading.{opening, fresh, State, run, reading}
 use Rattle.file.specs.declared.Outcome.the-variants.{Whole, Unfit, CutShort}
 use Rattle.file.proofs.PlaceLaws.{gives, given-once, read-count}
 use Rattle.file.proofs.Sound.{IsWhole, sound}

@@ -1,27 +1,25 @@
 -- A field at a place of a file: what the reader's functions see of it, and what it does to the reading.
 use mathlib.Core.Path.{_≡_, refl, sym, ap, _∙_}
 use mathlib.Core.Bool.{Bool, true, false}
-use mathlib.Core.List.{List, [], _∷_, _++_}
+use mathlib.Core.List.{List, [], _∷_}
 use Prim.Native.Nat.{ℕ, zero, suc, _+_, _-_, _≤_, _<_}
-use native.Mathlib.Nat.{add-zero}
 use native.Mathlib.Numerals.{add-one}
 use native.Mathlib.Omega.{arith}
 use lib.Dec.{eqb, ltb}
 use lib.ListN.{length, getD, drop, drop-of-length-le, length-drop}
 use lib.Seq.{drop-cons, drop-drop}
-use borrow.Author.Tests.{eq-eqb, ne-eqb, eqb-true, eqb-false, lt-ltb, le-ltb, ltb-true, ltb-false}
-use Rattle.laws.specs.Tests.{pick, either, never}
+use borrow.Author.Tests.{eqb-true, lt-ltb, le-ltb, ltb-true, ltb-false}
+use Rattle.laws.specs.Tests.{either, never}
 use Rattle.file.specs.Bytes.{quote, goes, matched, starts}
-use Rattle.file.specs.Format.{ending}
-use Rattle.file.specs.Reading.{Mode, opening, within, quoted, stopped, State, state, isLast, stepIn, step, run, Span, finishedIn, spans, outcomeIn, outcome}
+use Rattle.file.specs.Reading.{opening, within, State, state, isLast, stepIn, run, Span, finishedIn, spans, outcomeIn, outcome}
 use Rattle.file.specs.Fields.{closing, nextField, nextRecord, halt, endOf, closedBy, aheadOf}
-use Rattle.file.specs.Reader.{AheadNear, Sought, OpensAt, textSpan}
+use Rattle.file.specs.Reader.{Sought, OpensAt, textSpan}
 use Rattle.file.specs.declared.Ahead.{Ahead}
 use Rattle.file.specs.declared.Ahead.the-variants.{Field, Stop}
-use Rattle.file.specs.declared.Outcome.the-variants.{Whole, Unfit, CutShort}
+use Rattle.file.specs.declared.Outcome.the-variants.{Unfit}
 use Rattle.file.proofs.TextLaws.{goes-within}
 use Rattle.file.proofs.Sound.{IsWhole}
-use Rattle.file.proofs.StepLaws.{TextMode, TextRun, text-run, stays, run-cons, Halts, Passed, field-passed, field-halted}
+use Rattle.file.proofs.StepLaws.{TextRun, text-run, stays, run-cons, Passed, field-passed, field-halted}
 
 -- a byte that stands at a place
 pub starts-at : (b : ℕ) (s : List ℕ) (at : ℕ) → at < length s → starts b (drop at s) ≡ eqb (getD s at 0) b

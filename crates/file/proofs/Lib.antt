@@ -11,3 +11,4 @@ pub mod WriterLaws
 pub mod Rewriting
 pub mod AnswerLaws
 pub mod AskLaws
+pub mod ThirteenFiles

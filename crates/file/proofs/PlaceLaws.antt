@@ -1,19 +1,18 @@
 -- Where a field stands in a writing: its place in the list of places, and that its text is what stands there.
-use mathlib.Core.Path.{_≡_, refl, sym, ap, _∙_, subst}
-use mathlib.Core.Bool.{Bool, true, false}
+use mathlib.Core.Path.{_≡_, refl, sym, ap, _∙_}
+use mathlib.Core.Bool.{true, false}
 use mathlib.Core.List.{List, [], _∷_, _++_, append-assoc, append-nil}
 use Prim.Native.Nat.{ℕ, zero, suc, _+_, _-_, _*_, _≤_, _<_}
 use native.Mathlib.Nat.{add-zero, zero-add}
-use native.Mathlib.Numerals.{add-one}
 use native.Mathlib.Omega.{arith}
 use lib.ListN.{length, getD, take, drop, length-append, List·getD-append}
 use lib.Seq.{drop-at, take-at, getD-append-add, ext-getD}
 use Rattle.file.specs.Bytes.{quote}
-use Rattle.file.specs.Format.{Text, Fields, ending, writtenField, writtenRecord, written, PermittedTexts, Permitted}
+use Rattle.file.specs.Format.{Fields, ending, writtenField, writtenRecord, written, Permitted}
 use Rattle.file.specs.Places.{opened, before, placeOf, fieldAt, fieldPlaces, places, Gives}
 use Rattle.file.specs.Reading.{opening, State, state, fresh, run, Span, spans, outcomeIn, outcome, reading}
 use Rattle.file.specs.Answers.{spanOf}
-use Rattle.file.specs.declared.Outcome.the-variants.{Whole, Unfit, CutShort}
+use Rattle.file.specs.declared.Outcome.the-variants.{Whole}
 use Rattle.file.proofs.ReadBack.{Over, written-read}
 
 abbrev none : Span

@@ -1,23 +1,22 @@
 -- What is written is read: the reading of a list of permitted records comes to that list, each text where it stands.
 -- A permitted text goes on exactly to its closing quote; so each field passes, and with it its record, and the next.
-use mathlib.Core.Path.{_≡_, refl, sym, ap, _∙_, subst}
-use mathlib.Core.Bool.{Bool, true, false, not}
-use mathlib.Core.List.{List, [], _∷_, _++_, append-assoc, append-nil}
-use Prim.Native.Nat.{ℕ, zero, suc, _+_, _-_, _*_, _≤_, _<_}
-use native.Mathlib.Nat.{add-zero, zero-add}
-use native.Mathlib.Numerals.{add-one}
+use mathlib.Core.Path.{_≡_, refl, sym, _∙_}
+use mathlib.Core.Bool.{Bool, true, false}
+use mathlib.Core.List.{List, [], _∷_, _++_, append-assoc}
+use Prim.Native.Nat.{ℕ, suc, _+_, _-_, _≤_}
+use native.Mathlib.Nat.{add-zero}
 use native.Mathlib.Omega.{arith}
 use lib.Dec.{eqb}
-use lib.ListN.{length, getD, take, drop, length-append}
-use lib.Seq.{drop-append-seam, drop-at, take-at, drop-drop, getD-append-add}
+use lib.ListN.{length, drop, length-append}
+use lib.Seq.{drop-append-seam, drop-at}
 use borrow.Author.Tests.{eq-eqb, ne-eqb}
-use Rattle.laws.specs.Tests.{pick, both, oneOf, either, clash, never, both-left, both-right, both-true}
-use Rattle.file.specs.Bytes.{quote, comma, semicolon, CR, LF, ends, permittedByte, goesOn, goes, permittedText, matched}
+use Rattle.laws.specs.Tests.{both, both-left, both-right}
+use Rattle.file.specs.Bytes.{quote, ends, goesOn, goes, permittedText, matched}
 use Rattle.file.specs.Format.{Text, Fields, ending, writtenField, writtenRecord, written, PermittedTexts, Permitted}
-use Rattle.file.specs.Fields.{closing, nextField, nextRecord}
-use Rattle.file.specs.Places.{opened, fieldPlaces, places}
+use Rattle.file.specs.Fields.{closing}
+use Rattle.file.specs.Places.{fieldPlaces, places}
 use Rattle.file.specs.Reading.{opening, State, state, isLast, run, Span, spans}
-use Rattle.file.proofs.TextLaws.{ends-two, goes-ends}
+use Rattle.file.proofs.TextLaws.{goes-ends}
 use Rattle.file.proofs.StepLaws.{Passed, goes-on}
 use Rattle.file.proofs.FieldLaws.{list-passed}
 

@@ -13,7 +13,7 @@ use Rattle.laws.specs.Splice.{splice, splice-none, splice-length, splice-then}
 use Rattle.file.specs.Bytes.{permittedText}
 use Rattle.file.specs.Format.{Text, Fields, writtenField, writtenRecord, written, PermittedTexts, Permitted}
 use Rattle.file.specs.Files.{fieldsOf}
-use Rattle.file.specs.Rewriting.{Buffer, buffer, laid, placeIn, writeField, writeFields, writeRecords, rewriteFields, rewriteRecords, fieldIn, Gives}
+use Rattle.file.specs.Rewriting.{Buffer, buffer, laid, placeIn, writeField, writeFields, writeRecords, rewriteFields, rewriteRecords, fieldIn, SameTexts}
 use Rattle.file.proofs.WriterLaws.{has-field, when-laid}
 
 -- nothing laid, and one lay after another
@@ -103,7 +103,7 @@ module _ (file : ℕ) where
       ∙ records-given text (suc r) rs (writeFields file 1 x w) (p .1) (λ i j h k. let s : suc r + i ≡ r + suc i = omega arith in rw s (g (suc i) j (omega arith) k))
 
   -- the same where the texts come from a function that gives those of the records, as the reader does
-  pub written-again-by : (text : ℕ → ℕ → Text) (rs : List Fields) → Permitted (fieldsOf file) rs → Gives (fieldsOf file) text rs → (d : List ℕ) (place : ℕ)
+  pub written-again-by : (text : ℕ → ℕ → Text) (rs : List Fields) → Permitted (fieldsOf file) rs → SameTexts (fieldsOf file) text rs → (d : List ℕ) (place : ℕ)
       → place + length (written rs) ≤ length d → rewriteRecords file text (length rs) 1 (buffer d place) ≡ laid (written rs) (buffer d place)
   written-again-by text rs p g d place h =
       records-given text 1 rs (buffer d place) p (λ i j l k. at i j (g (1 + i) (1 + j) (omega arith) (omega arith) (omega arith) (omega arith))) ∙ written-again rs p d place h

@@ -1,7 +1,7 @@
 -- What is read was written: a reading that comes to a whole number of records has read the writing of a list of permitted records.
 -- By what is left: in each mode the bytes left are the rest of some writing, so a byte put before them makes a longer rest.
-use mathlib.Core.Path.{_≡_, refl, sym, ap, _∙_, subst}
-use mathlib.Core.Bool.{Bool, true, false}
+use mathlib.Core.Path.{_≡_, refl, ap, _∙_, subst}
+use mathlib.Core.Bool.{true, false}
 use mathlib.Core.List.{List, [], _∷_, _++_, append-assoc}
 use Prim.Native.Nat.{ℕ, zero, suc, _+_, _≤_, _<_}
 use native.Mathlib.Numerals.{add-one}
@@ -9,13 +9,13 @@ use native.Mathlib.Omega.{arith}
 use lib.Dec.{eqb}
 use lib.ListN.{length}
 use borrow.Author.Tests.{eqb-true, eqb-false}
-use Rattle.laws.specs.Tests.{pick, both, either, both-true}
+use Rattle.laws.specs.Tests.{either}
 use Rattle.file.specs.Bytes.{quote, comma, semicolon, CR, LF, ends, undefined, permittedByte, goesOn, permittedText}
 use Rattle.file.specs.Format.{Text, Fields, ending, writtenField, writtenRecord, written, PermittedTexts, Permitted, Legal}
-use Rattle.file.specs.Reading.{Mode, opening, within, quoted, returning, feeding, stopped, State, state, isLast, follows, inText, afterText, stepIn, step, run, outcomeIn, outcome}
+use Rattle.file.specs.Reading.{Mode, opening, within, quoted, returning, feeding, stopped, State, state, isLast, inText, afterText, stepIn, step, run, outcomeIn, outcome}
 use Rattle.file.specs.declared.Outcome.{Outcome}
 use Rattle.file.specs.declared.Outcome.the-variants.{Whole, Unfit, CutShort}
-use Rattle.file.proofs.TextLaws.{ends-two, ends-other}
+use Rattle.file.proofs.TextLaws.{ends-other}
 use Rattle.file.proofs.StepLaws.{run-cons, stays}
 
 -- a whole number of records

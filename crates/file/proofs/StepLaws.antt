@@ -3,19 +3,18 @@
 use mathlib.Core.Path.{_≡_, refl, sym, ap, _∙_}
 use mathlib.Core.Bool.{Bool, true, false}
 use mathlib.Core.List.{List, [], _∷_, _++_}
-use Prim.Native.Nat.{ℕ, zero, suc, _+_, _-_, _≤_, _<_}
+use Prim.Native.Nat.{ℕ, suc, _+_, _-_, _<_}
 use native.Mathlib.Nat.{add-zero}
-use native.Mathlib.Numerals.{add-one}
 use native.Mathlib.Omega.{arith}
-use lib.Dec.{eqb, ltb, leb}
+use lib.Dec.{eqb, ltb}
 use lib.ListN.{length, drop}
-use borrow.Author.Tests.{eq-eqb, ne-eqb, eqb-true, eqb-false, lt-ltb, le-ltb}
-use Rattle.laws.specs.Tests.{pick, both, oneOf, either, clash, never, both-left, both-right}
+use borrow.Author.Tests.{eqb-true, eqb-false, lt-ltb, le-ltb}
+use Rattle.laws.specs.Tests.{pick, both, either, clash, never, both-left, both-right}
 use Rattle.file.specs.Bytes.{quote, comma, semicolon, CR, LF, ends, undefined, permittedByte, goesOn, goes, matched}
 use Rattle.file.specs.Format.{ending}
-use Rattle.file.specs.Reading.{Mode, opening, within, quoted, returning, feeding, stopped, State, state, isLast, follows, inText, afterText, stepIn, step, run, Span, finishedIn, spans, outcomeIn, outcome}
+use Rattle.file.specs.Reading.{Mode, opening, within, quoted, returning, feeding, stopped, State, state, isLast, inText, afterText, stepIn, step, run, finishedIn, spans, outcomeIn, outcome}
 use Rattle.file.specs.Fields.{closing, nextField, nextRecord, halt}
-use Rattle.file.specs.declared.Outcome.the-variants.{Whole, Unfit, CutShort}
+use Rattle.file.specs.declared.Outcome.the-variants.{CutShort}
 use Rattle.file.proofs.TextLaws.{ends-two, ends-other, goes-quote}
 
 -- the reading is in a text, and these bytes are next: after a quote they don't end the field

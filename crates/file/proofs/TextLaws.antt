@@ -1,15 +1,15 @@
 -- Laws of `goes` and `plainRun`: what one byte says of those that are left, and that skipping plain bytes is going on with them.
 use mathlib.Core.Path.{_≡_, refl, sym, ap, _∙_}
 use mathlib.Core.Bool.{Bool, true, false, not}
-use mathlib.Core.List.{List, [], _∷_, _++_}
-use Prim.Native.Nat.{ℕ, zero, suc, _+_, _≤_, _<_}
+use mathlib.Core.List.{List, [], _∷_}
+use Prim.Native.Nat.{ℕ, suc, _+_, _≤_, _<_}
 use native.Mathlib.Numerals.{add-one}
 use native.Mathlib.Omega.{arith}
-use lib.Dec.{eqb, leb}
+use lib.Dec.{eqb}
 use lib.ListN.{length, getD, drop, drop-of-length-le}
 use lib.Seq.{drop-cons, drop-drop}
 use borrow.Author.Tests.{eq-eqb, ne-eqb, eqb-true, eqb-false}
-use Rattle.laws.specs.Tests.{pick, both, oneOf, either, clash, both-left, both-right, both-true}
+use Rattle.laws.specs.Tests.{pick, both, oneOf, either, clash, both-left, both-right}
 use Rattle.file.specs.Bytes.{quote, comma, semicolon, ends, permittedByte, goesOn, permittedText, goes, plain, plainRun, classOf, undefined}
 
 -- where a byte isn't the quote, no field ends

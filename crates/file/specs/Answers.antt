@@ -1,7 +1,6 @@
 -- What the reader's calls come back with, and document 01's number and place for each case of an answer.
 use Prim.Native.Nat.{ℕ, _+_, _-_, _*_}
 use mathlib.Core.List.{List, [], _∷_}
-use mathlib.Core.Bool.{Bool}
 use lib.Dec.{leb}
 use lib.ListN.{getD, length, take, drop}
 use Rattle.laws.specs.Tests.{pick, both}

@@ -1,8 +1,7 @@
 -- A field at a time: what one field does to a reading, and where it stops if it is not whole.
 use Prim.Native.Nat.{ℕ, _+_}
-use mathlib.Core.Path.{_≡_}
-use mathlib.Core.List.{List, [], _∷_}
-use mathlib.Core.Bool.{Bool, true, false}
+use mathlib.Core.List.{List, _∷_}
+use mathlib.Core.Bool.{Bool}
 use lib.Dec.{eqb, ltb}
 use lib.ListN.{getD, length, drop}
 use Rattle.laws.specs.Tests.{pick}

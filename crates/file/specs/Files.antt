@@ -1,9 +1,9 @@
 -- Document 01, "The batch": which files there are, how many fields their records have, and how long a file may be.
-use Prim.Native.Nat.{ℕ, _-_}
+use Prim.Native.Nat.{ℕ}
 use mathlib.Core.List.{List, [], _∷_}
 use mathlib.Core.Bool.{Bool}
 use lib.Dec.{leb}
-use lib.ListN.{getD, length}
+use lib.ListN.{getD}
 use Rattle.laws.specs.Tests.{both}
 
 -- VerzeJDF, Zastavky, Pevnykod, Dopravci, Linky, Spoje, Zaslinky, Zasspoje, Udaje, Caskody, Altdop, Altlinky, Mistenky

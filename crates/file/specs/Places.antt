@@ -2,11 +2,13 @@
 use Prim.Native.Nat.{ℕ, _+_, _<_}
 use mathlib.Core.Path.{_≡_}
 use mathlib.Core.List.{List, [], _∷_, _++_}
-use mathlib.Core.Bool.{true, false}
+use mathlib.Core.Bool.{false}
 use lib.ListN.{getD, length, take, drop}
 use Rattle.file.specs.Format.{Text, Fields, writtenField, writtenRecord, written}
 use Rattle.file.specs.Reading.{Span, reading}
-use Rattle.file.specs.Answers.{spanOf}
+use Rattle.laws.specs.Numbered.{answered}
+use Rattle.file.specs.Files.{fieldsOf}
+use Rattle.file.specs.Answers.{spanOf, recordsOf, stretchOf, textOf}
 use Rattle.file.specs.declared.Outcome.the-variants.{Whole}
 
 -- field f of record r, both from 0
@@ -33,6 +35,13 @@ pub record Gives (n : ℕ) (s : List ℕ) (rs : List Fields) : Type 0 where
   pub shape : (r : ℕ) → r < length rs → length (getD rs r []) ≡ n
   pub place : (r f : ℕ) → r < length rs → f < n → spanOf n s (r + 1) (f + 1) ≡ placeOf rs r f
   pub text : (r f : ℕ) → r < length rs → f < n → take (spanOf n s (r + 1) (f + 1) .size) (drop (spanOf n s (r + 1) (f + 1) .start) s) ≡ fieldAt rs r f
+
+-- the same in the words of the public calls, for the file of this number
+pub record GivesFile (file : ℕ) (s : List ℕ) (rs : List Fields) : Type 0 where
+  pub count : recordsOf file s ≡ answered (length rs ∷ [])
+  pub shape : (r : ℕ) → r < length rs → length (getD rs r []) ≡ fieldsOf file
+  pub place : (r f : ℕ) → r < length rs → f < fieldsOf file → stretchOf file s (r + 1) (f + 1) ≡ answered (placeOf rs r f .start ∷ placeOf rs r f .size ∷ [])
+  pub text : (r f : ℕ) → r < length rs → f < fieldsOf file → textOf file s (r + 1) (f + 1) ≡ fieldAt rs r f
 
 -- the places of a record's fields, where it starts at `at`
 unfoldable pub fieldPlaces : ℕ → Fields → List Span

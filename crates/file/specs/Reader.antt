@@ -2,7 +2,6 @@
 use Prim.Native.Nat.{ℕ, _+_, _≤_, _<_}
 use mathlib.Core.Path.{_≡_}
 use mathlib.Core.List.{List, [], _∷_}
-use mathlib.Core.Bool.{true}
 use lib.ListN.{getD, length, drop}
 use Rattle.laws.specs.Tests.{pick, both}
 use Rattle.laws.specs.Numbered.{Numbered, answered, refused}

@@ -1,7 +1,7 @@
 -- The reading of a file whose records have n fields: a fold of one step over its bytes.
 use Prim.Native.Nat.{ℕ, _+_, _-_}
 use mathlib.Core.List.{List, [], _∷_, _++_}
-use mathlib.Core.Bool.{Bool, true, false}
+use mathlib.Core.Bool.{Bool}
 use lib.Dec.{eqb}
 use Rattle.laws.specs.Tests.{pick, both}
 use Rattle.file.specs.Bytes.{quote, comma, semicolon, CR, LF, ends, permittedByte}

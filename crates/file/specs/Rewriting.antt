@@ -55,5 +55,5 @@ abbrev pub fieldIn : List Fields → ℕ → ℕ → Text
 fieldIn rs r f = getD (getD rs (r - 1) []) (f - 1) []
 
 -- `text` gives the texts of these records, which have n fields each
-abbrev pub Gives : ℕ → (ℕ → ℕ → Text) → List Fields → Type 0
-Gives n text rs = (r f : ℕ) → 1 ≤ r → r ≤ length rs → 1 ≤ f → f ≤ n → text r f ≡ fieldIn rs r f
+abbrev pub SameTexts : ℕ → (ℕ → ℕ → Text) → List Fields → Type 0
+SameTexts n text rs = (r f : ℕ) → 1 ≤ r → r ≤ length rs → 1 ≤ f → f ≤ n → text r f ≡ fieldIn rs r f

@@ -1,13 +1,12 @@
 -- `reader::field_end` meets its contract, by the definition's own tests; what it answers is within the file, since a text and
 -- the bytes that close it are.
-use mathlib.Core.Path.{_≡_, refl, sym, ap, _∙_}
-use Prim.Native.Nat.{_+_, _≤_, _<_}
+use Prim.Native.Nat.{_+_, _≤_}
 use native.Mathlib.Omega.{arith}
 use borrow.Author.Needs.{needs}
 use borrow.Author.Tests.{eq-eqb, ne-eqb, lt-ltb, le-ltb}
-use lib.ListN.{length, getD, drop, length-drop}
+use lib.ListN.{length, drop, length-drop}
 use denote.Ref.{now}
-use Rattle.file.specs.Fields.{closing, aheadOf, endOf, closedBy}
+use Rattle.file.specs.Fields.{closing, aheadOf}
 use Rattle.file.specs.Reader.{AheadNear}
 use Rattle.file.proofs.FieldLaws.{matched-within}
 use Rattle.reader.proofs.field_end.Statement.{statement}

@@ -1,14 +1,9 @@
 -- `reader::locate` meets its contract: the file's own refusal comes first, and a count tells that the file is legal.
-use mathlib.Core.Path.{_≡_, refl, sym, ap, _∙_}
-use mathlib.Core.List.{List, [], _∷_}
-use Prim.Native.Nat.{ℕ}
+use mathlib.Core.Path.{sym, _∙_}
 use borrow.Author.Needs.{needs}
 use denote.Ref.{now}
-use Rattle.laws.specs.Numbered.{Numbered, answered}
-use Rattle.file.specs.Answers.{numbered, numberedCounted, numberedStretch, recordsOf, located}
-use Rattle.file.specs.Files.{fieldsOf}
-use Rattle.file.specs.Reader.{Reads, Inside, textIn}
-use Rattle.file.specs.declared.Counted.{Counted}
+use Rattle.file.specs.Answers.{numberedCounted, numberedStretch, located}
+use Rattle.file.specs.Reader.{Inside, textIn}
 use Rattle.file.proofs.AnswerLaws.{CountedIn, asked-whole, asked-refused, asked-read, file-fields}
 use Rattle.reader.proofs.locate.Statement.{statement}
 use Rattle.reader.proofs.locate.Tie as tie

@@ -1,15 +1,9 @@
 -- `reader::opening_of` meets its contract. The loop's invariant: from `at` on, `left` texts stand before the one that is sought.
-use mathlib.Core.Path.{_≡_, refl, sym, _∙_}
-use Prim.Native.Nat.{ℕ, _+_, _-_, _≤_, _<_}
+use mathlib.Core.Path.{_≡_, sym, _∙_}
+use Prim.Native.Nat.{ℕ, _<_}
 use native.Mathlib.Omega.{arith}
 use borrow.Author.Needs.{needs}
-use borrow.Author.Tests.{eqb-false}
-use lib.Dec.{eqb}
-use lib.ListN.{length}
 use denote.Ref.{now}
-use Rattle.laws.specs.Tests.{either}
-use Rattle.file.specs.Fields.{nextField}
-use Rattle.file.specs.Reader.{AheadNear}
 use Rattle.file.specs.declared.Ahead.the-variants.{Field, Stop}
 use Rattle.file.proofs.Beginnings.{fewer}
 use Rattle.file.proofs.FieldLaws.{TextsLeft, left-first, left-ahead, left-next, left-none}

@@ -13,7 +13,7 @@ use Rattle.laws.specs.Tests.{either}
 use Rattle.file.specs.Fields.{nextField, nextRecord}
 use Rattle.file.specs.Reader.{AheadNear}
 use Rattle.file.specs.Reading.{opening, state, run, outcomeIn, outcome, reading, State}
-use Rattle.file.specs.declared.Ahead.the-variants.{Field, Stop}
+use Rattle.file.specs.declared.Ahead.the-variants.{Field}
 use Rattle.file.proofs.FieldLaws.{field-run, field-off}
 use Rattle.reader.proofs.scan.Statement.{statement}
 use Rattle.reader.proofs.scan.Tie as tie

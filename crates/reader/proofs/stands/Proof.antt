@@ -1,6 +1,5 @@
 -- `reader::stands` meets its contract: a place within the file has a byte, and no place past it has one.
 use mathlib.Core.Path.{sym}
-use native.Mathlib.Omega.{arith}
 use borrow.Author.Needs.{needs}
 use Rattle.laws.specs.Tests.{never}
 use Rattle.file.proofs.FieldLaws.{starts-at, starts-past}

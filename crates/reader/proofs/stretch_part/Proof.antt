@@ -1,16 +1,14 @@
 -- `reader::stretch_part` meets its contract: the part is the stretch, which is inside the file.
-use mathlib.Core.Path.{_≡_, refl, sym, ap, _∙_}
-use mathlib.Core.List.{List, [], _∷_}
-use Prim.Native.Nat.{ℕ, _+_, _-_, _≤_}
+use mathlib.Core.Path.{_≡_, sym, ap, _∙_}
+use mathlib.Core.List.{[], _∷_}
+use Prim.Native.Nat.{_+_, _-_, _≤_}
 use native.Mathlib.Omega.{arith}
 use borrow.Author.Needs.{needs}
-use lib.ListN.{length, take, drop}
+use lib.ListN.{length}
 use denote.Ref.{now}
 use Rattle.laws.specs.Numbered.{Numbered}
-use Rattle.file.specs.Answers.{numbered, numberedStretch, stretchOf, stretchIn}
+use Rattle.file.specs.Answers.{numberedStretch, stretchOf, stretchIn}
 use Rattle.file.specs.Reader.{Inside}
-use Rattle.file.specs.declared.Refusal.{Refusal}
-use Rattle.file.specs.declared.Stretch.{Stretch}
 use Rattle.file.proofs.AnswerLaws.{refusal-values}
 use Rattle.reader.proofs.stretch_part.Statement.{statement}
 use Rattle.reader.proofs.stretch_part.Tie as tie

@@ -1,9 +1,9 @@
 -- `reader::text_after` meets its contract: the text starts behind its opening quote, and goes on to its end.
-use mathlib.Core.Path.{_≡_, refl, sym, ap, _∙_}
-use Prim.Native.Nat.{ℕ, _+_, _-_, _≤_}
+use mathlib.Core.Path.{_≡_}
+use Prim.Native.Nat.{_+_, _-_}
 use native.Mathlib.Omega.{arith}
 use borrow.Author.Needs.{needs}
-use lib.ListN.{length, drop}
+use lib.ListN.{drop}
 use denote.Ref.{now}
 use Rattle.file.specs.Bytes.{goes}
 use Rattle.file.specs.Reader.{textAfter, Inside}

@@ -1,12 +1,10 @@
 -- `reader::text_of` meets its contract: what the file lacks is refused, and what it has is among its texts.
-use mathlib.Core.Path.{_≡_, refl, sym, ap, _∙_}
-use Prim.Native.Nat.{ℕ, _+_, _-_, _≤_, _<_}
+use mathlib.Core.Path.{ap, _∙_}
+use Prim.Native.Nat.{ℕ, _≤_}
 use native.Mathlib.Omega.{arith}
-use borrow.Author.Needs.{needs}
 use denote.Ref.{now}
 use Rattle.file.specs.Answers.{numbered, numberedStretch}
 use Rattle.file.specs.Reader.{textAfter, Inside}
-use Rattle.file.specs.declared.Stretch.{Stretch}
 use Rattle.file.proofs.AskLaws.{Few, few, sought, asked-in, asked-no-record, asked-no-field, among-zero, among-over}
 use Rattle.reader.proofs.text_of.Statement.{statement}
 use Rattle.reader.proofs.text_of.Tie as tie

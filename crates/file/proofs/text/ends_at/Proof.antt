@@ -1,10 +1,7 @@
 -- `file::text::ends_at` meets its contract: what ends a field is seen from the byte and the next.
-use mathlib.Core.Path.{_≡_, sym, _∙_}
-use Prim.Native.Nat.{_+_, _<_}
+use mathlib.Core.Path.{sym, _∙_}
 use borrow.Author.Needs.{needs}
 use borrow.Author.Tests.{eq-eqb, ne-eqb}
-use native.Mathlib.Omega.{arith}
-use lib.ListN.{length, getD}
 use denote.Ref.{now}
 use Rattle.file.proofs.TextLaws.{ends-no-quote, ends-no-next, ends-next}
 use Rattle.file.proofs.text.ends_at.Statement.{statement}

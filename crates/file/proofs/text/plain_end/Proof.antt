@@ -5,7 +5,7 @@ use native.Mathlib.Omega.{arith}
 use borrow.Author.Needs.{needs}
 use lib.ListN.{length, getD, drop}
 use denote.Ref.{now}
-use Rattle.file.specs.Bytes.{plain, plainRun, classOf}
+use Rattle.file.specs.Bytes.{plainRun}
 use Rattle.file.proofs.TextLaws.{run-plain, run-stops, run-end, class-plain, class-other}
 use Rattle.file.proofs.text.plain_end.Statement.{statement}
 use Rattle.file.proofs.text.plain_end.Tie as tie

@@ -4,7 +4,7 @@ use mathlib.Core.Path.{_≡_, sym, _∙_}
 use Prim.Native.Nat.{_+_, _-_, _≤_, _<_}
 use native.Mathlib.Omega.{arith}
 use borrow.Author.Needs.{needs}
-use lib.ListN.{length, getD, drop}
+use lib.ListN.{length, drop}
 use denote.Ref.{now}
 use Rattle.file.specs.Bytes.{plainRun, goes}
 use Rattle.file.proofs.TextLaws.{skipped, text-unfit, text-quote, text-ends, goes-end}

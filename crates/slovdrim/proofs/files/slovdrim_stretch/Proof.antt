@@ -1,5 +1,5 @@
 -- `slovdrim_stretch` hands on what the reader answers, case by case.
-use mathlib.Core.Path.{_≡_, ap, _∙_}
+use mathlib.Core.Path.{ap, _∙_}
 use borrow.Author.Needs.{needs}
 use Rattle.file.specs.Answers.{numberedStretch}
 use Rattle.slovdrim.specs.Files.{stretchResult}

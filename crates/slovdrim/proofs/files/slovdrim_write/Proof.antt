@@ -1,5 +1,5 @@
 -- `slovdrim_write` hands on what the writer answers, case by case, and leaves in the buffer what the writer leaves there.
-use mathlib.Core.Path.{_≡_, ap, _∙_}
+use mathlib.Core.Path.{ap, _∙_}
 use borrow.Author.Needs.{needs}
 use Rattle.file.specs.Answers.{numberedWritten}
 use Rattle.slovdrim.specs.Files.{writeResult}

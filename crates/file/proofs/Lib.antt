@@ -12,3 +12,4 @@ pub mod Rewriting
 pub mod AnswerLaws
 pub mod AskLaws
 pub mod ThirteenFiles
+pub mod RecordLaws

@@ -21,3 +21,7 @@ refused n = record { number = n; inFile = 0; inRecord = 0; inField = 0; atOffset
 -- a refusal whose place is an offset in a file
 abbrev pub refusedAt : ℕ → ℕ → ℕ → Numbered
 refusedAt n file offset = record { number = n; inFile = file; inRecord = 0; inField = 0; atOffset = offset; values = [] }
+
+-- a refusal whose place is a field of a record, or a whole record where the field is 0
+abbrev pub refusedIn : ℕ → ℕ → ℕ → ℕ → Numbered
+refusedIn n file rec field = record { number = n; inFile = file; inRecord = rec; inField = field; atOffset = 0; values = [] }

@@ -28,7 +28,7 @@ fn weekday(n: u64) -> u64 {
 
 fn week(n: u64) -> u64 {
     match calendar::week_of(n) {
-        Week::Numbered(w, _) => w,
+        Week::Counted(w, _) => w,
         Week::NoWeek => 0,
     }
 }

@@ -10,27 +10,20 @@ use native.Mathlib.Omega.{arith}
 use borrow.Author.Tests.{ltb-true, ltb-false, eqb-true, eqb-false, ne-eqb}
 use lib.Dec.{eqb, ltb}
 use Rattle.laws.specs.Tests.{pick, oneOf, either, clash}
-use Rattle.calendar.specs.Dates.{within, yearDays, monthDays, isDate, yearsDays, dayNumber, yearOf, newYear, monthOf, dayOf, dateOf, numberOf, tomorrow}
+use Rattle.calendar.specs.Dates.{within, yearDays, isDate, yearsDays, dayNumber, yearOf, newYear, monthOf, dayOf, dateOf, numberOf, tomorrow}
 use Rattle.calendar.specs.Weeks.{weekday, thursdayOf, weekOf, weeksIn}
 use Rattle.calendar.specs.Signs.{isDaySign, isWorkday, isRestday, signFits}
-use Rattle.calendar.specs.Real.{within-true, Real, real, real-is, number-day, year-least, year-most, month-next, month-least, year-low, year-high, new-year-before, next-year-after, month-low, month-high, month-before, next-month-after}
-use Rattle.calendar.specs.Turns.{in-month, month-end, year-end, last-date, new-year-is, year-of-number, month-of-number, day-of-number, thursdays-are, thursday-is, thursday-in, week-is, one-year, next-new-year}
+use Rattle.calendar.specs.Real.{within-true, real, real-is, number-day, year-least, year-most, month-next, month-least, year-low, year-high, new-year-before, next-year-after, month-low, month-high, month-before, next-month-after}
+use Rattle.calendar.specs.Turns.{in-month, month-end, year-end, by-tomorrow, not-the-last, new-year-is, year-of-number, month-of-number, day-of-number, thursdays-are, thursday-is, thursday-in, week-is, one-year, next-new-year}
 
 -- THE DAY AFTER a real date has the next number, over the ends of months and years
 pub next-number : (d m y : ℕ) → isDate d m y ≡ true → numberOf (tomorrow d m y) ≡ dayNumber d m y + 1
-unfolding tomorrow
-next-number d m y e = go (ltb d (monthDays y m)) refl
-  where
-    r : Real d m y
-    r = real d m y e
-
-    at-end : (t : Bool) → ltb m 12 ≡ t → d ≡ monthDays y m → numberOf (pick t (1, m + 1, y) (1, 1, y + 1)) ≡ dayNumber d m y + 1
-    at-end true f h = month-end d m y (r .first-month) (r .first-day) h
-    at-end false f h = year-end d m y (r .first-year) (r .first-day) h (omega (arith, ltb-false m 12 f, r .last-month))
-
-    go : (t : Bool) → ltb d (monthDays y m) ≡ t → numberOf (pick t (d + 1, m, y) (pick (ltb m 12) (1, m + 1, y) (1, 1, y + 1))) ≡ dayNumber d m y + 1
-    go true f = in-month d m y (r .first-day)
-    go false f = at-end (ltb m 12) refl (omega (arith, ltb-false d (monthDays y m) f, r .last-day))
+next-number d m y e =
+    let r = real d m y e in
+    by-tomorrow (λ t. numberOf t ≡ dayNumber d m y + 1) d m y r
+    (λ h. in-month d m y (r .first-day))
+    (λ h k. month-end d m y (r .first-month) (r .first-day) h)
+    (λ h k. year-end d m y (r .first-year) (r .first-day) h k)
 
 -- INVERSE: the number of a day's date is its number
 pub number-of-date : (n : ℕ) → dayNumber (dayOf n) (monthOf n) (yearOf n) ≡ n
@@ -48,59 +41,19 @@ number-is-day d m y e = number-day d m y (real d m y e)
 -- a day's date is a real one
 pub date-is-real : (n : ℕ) → n ≤ 73048 → isDate (dayOf n) (monthOf n) (yearOf n) ≡ true
 unfolding dayOf
-date-is-real n h = real-is _ _ _ (record {
-  first-year = year-low n;
-  last-year = year-high n;
-  first-month = month-low n;
-  last-month = month-high n;
-  first-day = omega arith;
-  last-day = omega (arith, next-month-after n h, month-next (yearOf n) (monthOf n) (month-low n), month-before n);
-})
+date-is-real n h =
+    let y = yearOf n in
+    let m = monthOf n in
+    real-is (dayOf n) m y (omega (arith, year-low n, year-high n, month-low n, month-high n, next-month-after n h, month-next y m (month-low n), month-before n))
 
 -- the day after a real date is a real date, but for 31 December 2099
 pub tomorrow-is-real : (d m y : ℕ) → isDate d m y ≡ true → dayNumber d m y < 73048 → isDate (tomorrow d m y .0) (tomorrow d m y .1) (tomorrow d m y .2) ≡ true
-unfolding tomorrow
-tomorrow-is-real d m y e n = go (ltb d (monthDays y m)) refl
-  where
-    r : Real d m y
-    r = real d m y e
-
-    real-date : ℕ × ℕ × ℕ → Type 0
-    real-date t = isDate (t .0) (t .1) (t .2) ≡ true
-
-    at-end : (t : Bool) → ltb m 12 ≡ t → d ≡ monthDays y m → real-date (pick t (1, m + 1, y) (1, 1, y + 1))
-    at-end true f h =
-        let a = ltb-true m 12 f in
-        real-is 1 (m + 1) y (record {
-          first-year = r .first-year;
-          last-year = r .last-year;
-          first-month = omega arith;
-          last-month = omega arith;
-          first-day = omega arith;
-          last-day = omega (arith, month-least y (m + 1) (omega arith) (omega arith));
-        })
-    at-end false f h =
-        let a : m ≡ 12 = omega (arith, ltb-false m 12 f, r .last-month) in
-        let b : y ≢ 2099 = λ (g : y ≡ 2099). absurd (omega (arith, last-date d m y g a h (r .first-day))) in
-        real-is 1 1 (y + 1) (record {
-          first-year = omega (arith, r .first-year);
-          last-year = omega (arith, r .last-year);
-          first-month = omega arith;
-          last-month = omega arith;
-          first-day = omega arith;
-          last-day = omega (arith, month-least (y + 1) 1 (omega arith) (omega arith));
-        })
-
-    go : (t : Bool) → ltb d (monthDays y m) ≡ t → real-date (pick t (d + 1, m, y) (pick (ltb m 12) (1, m + 1, y) (1, 1, y + 1)))
-    go true f = real-is (d + 1) m y (record {
-      first-year = r .first-year;
-      last-year = r .last-year;
-      first-month = r .first-month;
-      last-month = r .last-month;
-      first-day = omega arith;
-      last-day = omega (arith, ltb-true d (monthDays y m) f);
-    })
-    go false f = at-end (ltb m 12) refl (omega (arith, ltb-false d (monthDays y m) f, r .last-day))
+tomorrow-is-real d m y e n =
+    let r = real d m y e in
+    by-tomorrow (λ t. isDate (t .0) (t .1) (t .2) ≡ true) d m y r
+    (λ h. real-is (d + 1) m y (omega arith))
+    (λ h k. real-is 1 (m + 1) y (omega (arith, month-least y (m + 1) (omega arith) (omega arith))))
+    (λ h k. real-is 1 1 (y + 1) (omega (arith, not-the-last d m y r h k n, month-least (y + 1) 1 (omega arith) (omega arith))))
 
 -- THE DATE OF THE NEXT DAY is tomorrow's
 pub next-date : (n : ℕ) → n < 73048 → dateOf (n + 1) ≡ tomorrow (dayOf n) (monthOf n) (yearOf n)

@@ -14,7 +14,7 @@ use Rattle.calendar.specs.declared.Date.the-variants.{On, NoDate}
 use Rattle.calendar.specs.declared.DayOfWeek.{DayOfWeek}
 use Rattle.calendar.specs.declared.DayOfWeek.the-variants.{Is, NoWeekday}
 use Rattle.calendar.specs.declared.Week.{Week}
-use Rattle.calendar.specs.declared.Week.the-variants.{Numbered as Counted, NoWeek}
+use Rattle.calendar.specs.declared.Week.the-variants.{Counted, NoWeek}
 use Rattle.calendar.specs.declared.Whether.{Whether}
 use Rattle.calendar.specs.declared.Whether.the-variants.{Yes, Not, NoDay}
 use Rattle.calendar.specs.Answers.{bit, numberedDay, numberedDate, numberedWeekday, numberedWeek, numberedWhether, dayAnswer, dateAnswer, weekdayAnswer, weekAnswer, holidayAnswer, fitsAnswer}

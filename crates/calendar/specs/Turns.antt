@@ -8,10 +8,10 @@ use native.Mathlib.Omega.{arith}
 use borrow.Author.Tests.{ltb-true, ltb-false, eqb-true, eqb-false}
 use lib.Dec.{eqb, ltb}
 use Rattle.laws.specs.Tests.{pick, either}
-use Rattle.calendar.specs.Dates.{leap, yearDays, monthDays, isDate, yearsDays, monthsDays, dayNumber, yearOf, newYear, monthOf, dayOf}
+use Rattle.calendar.specs.Dates.{tomorrow, leap, yearDays, monthDays, isDate, yearsDays, monthsDays, dayNumber, yearOf, newYear, monthOf, dayOf}
 use Rattle.calendar.specs.Weeks.{weekday, mondayOf, thursdayOf, thursdays, weekOf}
 use Rattle.calendar.specs.Counting.{last-is}
-use Rattle.calendar.specs.Real.{real, twelve, year-least, next-year-after, years-to, year-index, years-rise, months-rise, year-next, month-next, number-low, number-high, year-low, year-high, new-year-before, new-year-found}
+use Rattle.calendar.specs.Real.{Real, real, twelve, year-least, next-year-after, years-to, year-index, years-rise, months-rise, year-next, month-next, number-low, number-high, year-low, year-high, new-year-before, new-year-found}
 
 pub in-month : (d m y : ℕ) → 1 ≤ d → dayNumber (d + 1) m y ≡ dayNumber d m y + 1
 unfolding dayNumber
@@ -44,6 +44,30 @@ last-date d m y e f g h =
     let a : dayNumber 1 1 (y + 1) ≡ dayNumber d m y + 1 = year-end d m y (omega arith) h g f in
     let b : dayNumber 1 1 (y + 1) ≡ dayNumber 1 1 2100 = ap (λ (i : ℕ). dayNumber 1 1 (i + 1)) e in
     omega (arith, past-the-last)
+
+-- so an earlier date's year has a next one
+pub not-the-last : (d m y : ℕ) → Real d m y → d ≡ monthDays y m → m ≡ 12 → dayNumber d m y < 73048 → y < 2099
+not-the-last d m y r g f n =
+    either (ltb y 2099)
+    (λ e. ltb-true y 2099 e)
+    (λ e. absurd (omega (arith, last-date d m y (omega (arith, ltb-false y 2099 e)) f g (r .first-day))))
+
+-- a proof of what holds of the day after, by its three cases
+pub by-tomorrow : (P : ℕ × ℕ × ℕ → Type 0) (d m y : ℕ) → Real d m y
+    → (d < monthDays y m → P (d + 1, m, y))
+    → (d ≡ monthDays y m → m < 12 → P (1, m + 1, y))
+    → (d ≡ monthDays y m → m ≡ 12 → P (1, 1, y + 1))
+    → P (tomorrow d m y)
+unfolding tomorrow
+by-tomorrow P d m y r in-it next last = go (ltb d (monthDays y m)) refl
+  where
+    at-end : (t : Bool) → ltb m 12 ≡ t → d ≡ monthDays y m → P (pick t (1, m + 1, y) (1, 1, y + 1))
+    at-end true f h = next h (ltb-true m 12 f)
+    at-end false f h = last h (omega (arith, ltb-false m 12 f, r .last-month))
+
+    go : (t : Bool) → ltb d (monthDays y m) ≡ t → P (pick t (d + 1, m, y) (pick (ltb m 12) (1, m + 1, y) (1, 1, y + 1)))
+    go true f = in-it (ltb-true d (monthDays y m) f)
+    go false f = at-end (ltb m 12) refl (omega (arith, ltb-false d (monthDays y m) f, r .last-day))
 
 pub new-year-is : (n : ℕ) → newYear n ≡ yearsDays (yearOf n - 1900)
 unfolding newYear

@@ -28,7 +28,7 @@ pub enum DayOfWeek {
 
 // A day's ISO week, and whether it is odd.
 pub enum Week {
-    Numbered(u64, bool),
+    Counted(u64, bool),
     NoWeek,
 }
 
@@ -80,7 +80,7 @@ pub fn week_of(number: u64) -> Week
     ensures { λ r. ⌜ numberedWeek r ≡ weekAnswer number ⌝ }
 {
     if dates::is_day(number) {
-        Week::Numbered(weeks::week_number(number), weeks::odd_week(number))
+        Week::Counted(weeks::week_number(number), weeks::odd_week(number))
     } else {
         Week::NoWeek
     }

@@ -110,7 +110,7 @@ pub extern "C" fn slovdrim_week(number: u64) -> WeekResult
     ensures { λ r. ⌜ r ≡ weekResult (weekAnswer number) ⌝ }
 {
     match calendar::week_of(number) {
-        Week::Numbered(w, odd) => WeekResult {
+        Week::Counted(w, odd) => WeekResult {
             number: 0,
             week: w,
             odd: bit_of(odd),

@@ -1,21 +1,17 @@
+-- `leap_year` meets its contract: each branch answers one test of the definition.
 use Rattle.laws.specs.Tests.{tests}
 use Rattle.calendar.specs.Dates.{leap}
 use Rattle.calendar.proofs.dates.leap_year.Statement.{statement}
 use Rattle.calendar.proofs.dates.leap_year.Tie as tie
-use Rattle.calendar.proofs.dates.leap_year.Reads as reads
-use Rattle.calendar.proofs.dates.leap_year.Lts as lts
 
--- src/dates.rt:16:9
 returns : tie.Need-returns
 unfolding leap
 returns c = search tests
 
--- src/dates.rt:19:9
 returns-2 : tie.Need-returns-2
 unfolding leap
 returns-2 c = search tests
 
--- src/dates.rt:12:1
 returns-3 : tie.Need-returns-3
 unfolding leap
 returns-3 c = search tests

@@ -1,26 +1,21 @@
+-- `is_day_sign` meets its contract: each branch answers one test of the definition.
 use Rattle.laws.specs.Tests.{tests}
 use Rattle.calendar.specs.Signs.{isDaySign}
 use Rattle.calendar.proofs.signs.is_day_sign.Statement.{statement}
 use Rattle.calendar.proofs.signs.is_day_sign.Tie as tie
-use Rattle.calendar.proofs.signs.is_day_sign.Reads as reads
-use Rattle.calendar.proofs.signs.is_day_sign.Lts as lts
 
--- src/signs.rt:33:9
 returns : tie.Need-returns
 unfolding isDaySign
 returns c = search tests
 
--- src/signs.rt:36:9
 returns-2 : tie.Need-returns-2
 unfolding isDaySign
 returns-2 c = search tests
 
--- src/signs.rt:39:9
 returns-3 : tie.Need-returns-3
 unfolding isDaySign
 returns-3 c = search tests
 
--- src/signs.rt:29:1
 returns-4 : tie.Need-returns-4
 unfolding isDaySign
 returns-4 c = search tests

@@ -127,6 +127,20 @@ module _ (n f k at a : ℕ) (last : Bool) (h : isLast n f ≡ last) (s : List �
       (rw (opens (eqb-true (getD s at 0) quote q), ← w) p, y)))
       (λ q. let g = rw q at e in let z : _≡_ {A = ℕ} 0 1 = cc in absurd (omega arith))
 
+  pub field-near : (next : ℕ) → aheadOf s at last ≡ Field next → next ≤ length s
+  unfolding aheadOf
+  field-near next e =
+      either (eqb (getD s at 0) quote)
+      (λ q.
+      either (ltb (closedBy s last (endOf s (at + 1))) (length (closing last)))
+      (λ t. let g = rw (q, t) at e in let z : _≡_ {A = ℕ} 0 1 = cc in absurd (omega arith))
+      (λ t.
+      let g = rw (q, t) at e in
+      let x : endOf s (at + 1) + closedBy s last (endOf s (at + 1)) ≡ next = cc in
+      omega
+      (arith, matched-within (closing last) (drop (endOf s (at + 1)) s), length-drop (endOf s (at + 1)) s, goes-within (drop (at + 1) s), length-drop (at + 1) s)))
+      (λ q. let g = rw q at e in let z : _≡_ {A = ℕ} 0 1 = cc in absurd (omega arith))
+
   -- so the reading from here on is the reading from the next field on
   pub field-run : (next : ℕ) → aheadOf s at last ≡ Field next
       → run n (state opening f k at a) (drop at s) ≡ run n (state opening (nextField last f) (nextRecord last k) next 0) (drop next s)
@@ -226,6 +240,19 @@ module _ (n : ℕ) (s : List ℕ) (others at f left : ℕ) (l : TextsLeft n s ot
         has = let g = rw p at (l .has) in omega arith;
         same = (rw (p, d) at (l .same));
       }
+
+  -- the place past it
+  abbrev pub past : ℕ
+  past = endOf s (at + 1) + length (closing (isLast n f))
+
+  pub past-is : left-ahead .next ≡ past
+  past-is = field-on n f (l .k) at 0 (isLast n f) refl s (left-ahead .within) (left-ahead .next) (left-ahead .ahead) .1
+
+  pub past-near : past ≤ length s
+  past-near = rw past-is at (field-near n f (l .k) at 0 (isLast n f) refl s (left-ahead .within) (left-ahead .next) (left-ahead .ahead))
+
+  pub left-past : 0 < left → TextsLeft n s others past (nextField (isLast n f) f) (left - 1)
+  left-past h = rw past-is at (left-next (left-ahead .next) (left-ahead .ahead) h)
 
   -- where none stands before it, its opening quote is due here
   pub left-none : left ≤ 0 → OpensAt n s others at

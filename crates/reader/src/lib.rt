@@ -145,10 +145,7 @@ fn opening_of(s: &[u8], n: usize, others: usize, class: &[u8; 256]) -> usize
     let mut left = others;
     while left > 0 {
         let last = field + 1 == n;
-        match field_end(s, at, last, class) {
-            Ahead::Stop(place) => return place,
-            Ahead::Field(next) => at = next,
-        }
+        at = text_end(s, at + 1, class) + closing_size(last);
         field = next_field(last, field);
         left -= 1;
     }

@@ -8,16 +8,17 @@ use native.Mathlib.Omega.{arith}
 use lib.Dec.{eqb, ltb}
 use lib.ListN.{length, getD, drop, drop-of-length-le, length-drop}
 use lib.Seq.{drop-cons, drop-drop}
-use borrow.Author.Tests.{eqb-true, lt-ltb, le-ltb, ltb-true, ltb-false}
-use Rattle.laws.specs.Tests.{either, never}
-use Rattle.file.specs.Bytes.{quote, goes, matched, starts}
+use borrow.Author.Tests.{eqb-true, lt-ltb, le-ltb, ltb-true, ltb-false, eq-eqb}
+use Rattle.laws.specs.Tests.{either, never, both-left}
+use Rattle.file.specs.Bytes.{quote, goes, matched, starts, comma, semicolon, CR, LF, ends, undefined, permittedByte, goesOn, closes}
+use Rattle.file.specs.Format.{ending}
 use Rattle.file.specs.Reading.{opening, within, State, state, isLast, stepIn, run, Span, finishedIn, spans, outcomeIn, outcome}
-use Rattle.file.specs.Fields.{closing, nextField, nextRecord, halt, endOf, closedBy, aheadOf}
+use Rattle.file.specs.Fields.{closing, nextField, nextRecord, halt, endOf, closedBy, aheadOf, aheadFrom}
 use Rattle.file.specs.Reader.{Sought, OpensAt, textSpan}
 use Rattle.file.specs.declared.Ahead.{Ahead}
 use Rattle.file.specs.declared.Ahead.the-variants.{Field, Stop}
 use Rattle.file.specs.declared.Outcome.the-variants.{Unfit}
-use Rattle.file.proofs.TextLaws.{goes-within}
+use Rattle.file.proofs.TextLaws.{goes-within, closes-at}
 use Rattle.file.proofs.Sound.{IsWhole}
 use Rattle.file.proofs.StepLaws.{TextRun, text-run, stays, run-cons, Passed, field-passed, field-halted}
 
@@ -83,11 +84,48 @@ module _ (n f k at a : ℕ) (last : Bool) (h : isLast n f ≡ last) (l : List �
       let r = inside in
       ap (λ (st : State). outcome st) (enters ∙ r .runs) ∙ field-halted n f k (at + 1 + goes l) (at + 1) last h (r .to) (drop (goes l) l) (r .still) (r .stops) m
 
+-- a text stops where it stops
+stop-again : (l : List ℕ) → goes (drop (goes l) l) ≡ 0
+unfolding goes
+stop-again [] = refl
+stop-again (b ∷ l) = either (goesOn (b ∷ l)) (λ h. rw h (stop-again l)) (λ h. rw h (rw h))
+
+stopped-text : (s : List ℕ) (at : ℕ) → goes (drop (endOf s at) s) ≡ 0
+stopped-text s at = rw (← drop-drop (goes (drop at s)) at s) (stop-again (drop at s))
+
 matched-due : (due l : List ℕ) → matched due l ≤ length due
 unfolding matched
 matched-due [] l = omega arith
 matched-due (d ∷ due) [] = omega arith
 matched-due (d ∷ due) (b ∷ l) = either (eqb b d) (λ e. rw e (omega (arith, matched-due due l))) (λ e. rw e (omega arith))
+
+-- a text that stops at a quote stops because a field ends; where none ends, neither quote nor comma nor semicolon stands there
+starts-quote : (l : List ℕ) → ends l ≡ true → starts quote l ≡ true
+unfolding ends starts
+starts-quote [] e = never e
+starts-quote (a ∷ []) e = never e
+starts-quote (a ∷ b ∷ l) e = both-left (eqb a quote) _ e
+
+no-start : (l : List ℕ) → goes l ≡ 0 → ends l ≡ false → (b : ℕ) → permittedByte b ≡ true → starts b l ≡ false
+unfolding goes goesOn starts
+no-start [] g e b p = refl
+no-start (x ∷ l) g e b p =
+    either (eqb x b)
+    (λ q. absurd (let z = rw (e, eqb-true x b q, p) at g in omega arith))
+    (λ q. q)
+
+first-follows : (last : Bool) (l : List ℕ) → ((b : ℕ) → permittedByte b ≡ true → starts b l ≡ false) → matched (ending last) l ≡ 0
+unfolding permittedByte undefined
+first-follows true l h = matched-none semicolon (CR ∷ LF ∷ []) l (h semicolon refl)
+first-follows false l h = matched-none comma [] l (h comma refl)
+
+quote-fits : permittedByte quote ≡ true
+unfolding permittedByte undefined
+quote-fits = refl
+
+ending-some : (last : Bool) → 0 < length (ending last)
+ending-some true = omega arith
+ending-some false = omega arith
 
 same-test : (a b c d : ℕ) → (a < b → c < d) → (b ≤ a → d ≤ c) → ltb a b ≡ ltb c d
 same-test a b c d p q =
@@ -98,6 +136,37 @@ same-test a b c d p q =
 unopened : (n f k at a b : ℕ) (l : List ℕ) → eqb b quote ≡ false → outcome (run n (state opening f k at a) (b ∷ l)) ≡ Unfit at
 unfolding stepIn outcomeIn
 unopened n f k at a b l q = rw (run-cons n (state opening f k at a) b l, q, stays n f k at a l)
+
+-- what follows a closing quote, by how much of it stands
+pub from-stop : (s : List ℕ) (last : Bool) (at m : ℕ) → matched (ending last) (drop at s) ≡ m → m < length (ending last) → aheadFrom s last at ≡ Stop (at + m)
+unfolding aheadFrom
+from-stop s last at m e h = rw (e, lt-ltb m (length (ending last)) h)
+
+pub from-field : (s : List ℕ) (last : Bool) (at : ℕ) → matched (ending last) (drop at s) ≡ length (ending last) → aheadFrom s last at ≡ Field (at + length (ending last))
+unfolding aheadFrom
+from-field s last at e = rw (e, le-ltb (length (ending last)) (length (ending last)) (omega arith))
+
+-- what lies ahead of an opening quote is what follows its text's closing
+pub ahead-closed : (s : List ℕ) (at : ℕ) (last : Bool) (close : ℕ) → getD s at 0 ≡ quote → close ≡ at + 1 + closes (drop (at + 1) s)
+    → aheadOf s at last ≡ aheadFrom s last close
+unfolding aheadOf aheadFrom
+ahead-closed s at last close q e =
+    let end = endOf s (at + 1) in
+    let k = closes-at s (at + 1) end refl in
+    either (ends (drop end s))
+    (λ h.
+    let c : close ≡ end + 1 = let z = rw h at k in omega arith in
+    let m = matched-more quote (ending last) s end close c (starts-quote (drop end s) h) in
+    let t = same-test (suc (matched (ending last) (drop close s))) (suc (length (ending last))) (matched (ending last) (drop close s)) (length (ending last)) (λ u. omega arith) (λ u. omega arith) in
+    let w : end + suc (matched (ending last) (drop close s)) ≡ close + matched (ending last) (drop close s) = omega arith in
+    rw (eq-eqb (getD s at 0) quote q, m, t, w))
+    (λ h.
+    let c : close ≡ end = let z = rw h at k in omega arith in
+    let g = stopped-text s (at + 1) in
+    let no-byte = no-start (drop end s) g h in
+    let m : matched (closing last) (drop end s) ≡ 0 = matched-none quote (ending last) (drop end s) (no-byte quote quote-fits) in
+    let f : matched (ending last) (drop close s) ≡ 0 = rw c (first-follows last (drop end s) no-byte) in
+    rw (eq-eqb (getD s at 0) quote q, m, f, lt-ltb 0 (suc (length (ending last))) (omega arith), lt-ltb 0 (length (ending last)) (ending-some last), c))
 
 -- the same at a place of a file: by what lies ahead of it
 module _ (n f k at a : ℕ) (last : Bool) (h : isLast n f ≡ last) (s : List ℕ) (i : at < length s) where

@@ -2,15 +2,16 @@
 use mathlib.Core.Path.{_≡_, refl, sym, ap, _∙_}
 use mathlib.Core.Bool.{Bool, true, false, not}
 use mathlib.Core.List.{List, [], _∷_}
-use Prim.Native.Nat.{ℕ, suc, _+_, _≤_, _<_}
+use Prim.Native.Nat.{ℕ, suc, _+_, _-_, _≤_, _<_}
 use native.Mathlib.Numerals.{add-one}
 use native.Mathlib.Omega.{arith}
-use lib.Dec.{eqb}
-use lib.ListN.{length, getD, drop, drop-of-length-le}
+use lib.Dec.{eqb, ltb}
+use lib.ListN.{length, getD, drop, drop-of-length-le, length-drop}
 use lib.Seq.{drop-cons, drop-drop}
-use borrow.Author.Tests.{eq-eqb, ne-eqb, eqb-true, eqb-false}
-use Rattle.laws.specs.Tests.{pick, both, oneOf, either, clash, both-left, both-right}
-use Rattle.file.specs.Bytes.{quote, comma, semicolon, ends, permittedByte, goesOn, permittedText, goes, plain, plainRun, classOf, undefined}
+use borrow.Author.Tests.{eq-eqb, ne-eqb, eqb-true, eqb-false, ltb-true, ltb-false}
+use Rattle.laws.specs.Tests.{pick, both, oneOf, either, clash, both-left, both-right, never}
+use Rattle.file.specs.Bytes.{quote, comma, semicolon, ends, permittedByte, goesOn, permittedText, goes, plain, plainRun, classOf, closes, undefined}
+use Rattle.file.specs.Reader.{Reached}
 
 -- where a byte isn't the quote, no field ends
 pub ends-other : (b : ℕ) (l : List ℕ) → (b ≡ quote → ⊥) → ends (b ∷ l) ≡ false
@@ -164,3 +165,59 @@ class-plain b e = either (plain b) (λ h. h) (λ h. absurd (let z = rw h at e in
 pub class-other : (b : ℕ) → (classOf b ≡ 46 → ⊥) → plain b ≡ false
 unfolding classOf
 class-other b e = either (plain b) (λ h. absurd (e (rw h))) (λ h. h)
+
+-- where a text stops, and where its closing leads
+pub closes-at : (s : List ℕ) (at i : ℕ) → i ≡ at + goes (drop at s) → at + closes (drop at s) ≡ i + pick (ends (drop i s)) 1 0
+unfolding closes
+closes-at s at i e =
+    let d : drop (goes (drop at s)) (drop at s) ≡ drop i s = rw (drop-drop, ← e) in
+    rw d (omega arith)
+
+no-ends : (l : List ℕ) → length l ≤ 1 → ends l ≡ true → ⊥
+unfolding ends
+no-ends [] h e = never e
+no-ends (a ∷ []) h e = never e
+no-ends (a ∷ b ∷ l) h e = omega arith
+
+-- a field that ends takes two bytes
+pub ends-within : (s : List ℕ) (i : ℕ) → ends (drop i s) ≡ true → i + 1 < length s
+ends-within s i h =
+    let d = length-drop i s in
+    either (ltb (i + 1) (length s))
+    (λ t. ltb-true (i + 1) (length s) t)
+    (λ t. absurd (no-ends (drop i s) (omega (arith, ltb-false (i + 1) (length s) t)) h))
+
+-- the text from `at` on stops where the text from i on stops, and no plain byte stands at i: what a loop that skips plain bytes keeps
+pub record TextFrom (s : List ℕ) (at i : ℕ) : Type 0 where
+  pub near : i ≤ length s
+  pub same : i + goes (drop i s) ≡ at + goes (drop at s)
+  pub bare : plainRun (drop i s) ≡ 0
+
+pub from-skip : (s : List ℕ) (at r : ℕ) → Reached s at (plainRun (drop at s)) r → TextFrom s at r
+from-skip s at r h = let k = skipped s at r (h .place) in record { near = h .near; same = sym (k .0); bare = k .1 }
+
+module _ (s : List ℕ) (at i : ℕ) (f : TextFrom s at i) where
+  pub from-end : length s ≤ i → i ≡ at + goes (drop at s)
+  from-end h = omega (arith, f .same, goes-end s i h)
+
+  pub from-unfit : i < length s → (getD s i 0 ≡ quote → ⊥) → i ≡ at + goes (drop at s)
+  from-unfit h q = omega (arith, f .same, text-unfit s i h (f .bare) q)
+
+  pub from-ends : i < length s → ends (drop i s) ≡ true → i ≡ at + goes (drop at s)
+  from-ends h e = omega (arith, f .same, text-ends s i h e)
+
+  pub from-quote : i < length s → getD s i 0 ≡ quote → ends (drop i s) ≡ false → (r : ℕ) → Reached s (i + 1) (plainRun (drop (i + 1) s)) r → TextFrom s at r
+  from-quote h q e r k =
+      let n = from-skip s (i + 1) r k in
+      record { near = n .near; same = omega (arith, n .same, f .same, text-quote s i h q e); bare = n .bare }
+
+-- what the closing leads to, by whether a field ends where the text stops
+pub closes-unfit : (s : List ℕ) (at i : ℕ) → i ≡ at + goes (drop at s) → ends (drop i s) ≡ false → i ≡ at + closes (drop at s)
+closes-unfit s at i e h = let k = rw h at (closes-at s at i e) in omega arith
+
+pub closes-ends : (s : List ℕ) (at i : ℕ) → i ≡ at + goes (drop at s) → ends (drop i s) ≡ true → i + 1 ≡ at + closes (drop at s)
+closes-ends s at i e h = let k = rw h at (closes-at s at i e) in omega arith
+
+pub ends-past : (s : List ℕ) (i : ℕ) → length s ≤ i → ends (drop i s) ≡ false
+unfolding ends
+ends-past s i h = rw (drop-of-length-le s h)

@@ -1,8 +1,9 @@
 -- Document 01, "Bytes of a file": which bytes a text may hold, and what ends a field.
-use Prim.Native.Nat.{ℕ, suc}
+use Prim.Native.Nat.{ℕ, suc, _+_}
 use mathlib.Core.List.{List, [], _∷_}
 use mathlib.Core.Bool.{Bool, true, false, not}
 use lib.Dec.{eqb, leb}
+use lib.ListN.{drop}
 use Rattle.laws.specs.Tests.{pick, both, oneOf}
 
 -- the bytes that have a meaning of their own
@@ -49,6 +50,10 @@ permittedText (b ∷ t) = both (goesOn (b ∷ t)) (permittedText t)
 unfoldable pub goes : List ℕ → ℕ
 goes [] = 0
 goes (b ∷ l) = pick (goesOn (b ∷ l)) (suc (goes l)) 0
+
+-- how many bytes lead past its closing quote, or to where it stops if no field ends there
+unfoldable pub closes : List ℕ → ℕ
+closes l = goes l + pick (ends (drop (goes l) l)) 1 0
 
 -- a plain byte: permitted, and a text goes on with it whatever follows
 unfoldable pub plain : ℕ → Bool

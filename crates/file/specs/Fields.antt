@@ -43,3 +43,10 @@ aheadOf s at last =
     (Stop (endOf s (at + 1) + closedBy s last (endOf s (at + 1))))
     (Field (endOf s (at + 1) + closedBy s last (endOf s (at + 1)))))
     (Stop at)
+
+-- where what follows a closing quote comes to, due from `at` on
+unfoldable pub aheadFrom : List ℕ → Bool → ℕ → Ahead
+aheadFrom s last at =
+    pick (ltb (matched (ending last) (drop at s)) (length (ending last)))
+    (Stop (at + matched (ending last) (drop at s)))
+    (Field (at + matched (ending last) (drop at s)))

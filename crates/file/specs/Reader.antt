@@ -28,6 +28,11 @@ unfoldable pub AheadNear : List ℕ → ℕ → Ahead → Type 0
 AheadNear s at (Field next) = (at < next) × (next ≤ length s)
 AheadNear s at (Stop place) = place ≤ length s
 
+-- the same of what follows a closing quote, where `at` is within s
+unfoldable pub EndsNear : List ℕ → ℕ → Ahead → Type 0
+EndsNear s at (Field next) = (at < next) × (next ≤ length s)
+EndsNear s at (Stop place) = at ≤ length s → place ≤ length s
+
 -- s is a legal file, and has a text that so many others stand before
 pub record Sought (n : ℕ) (s : List ℕ) (others : ℕ) : Type 0 where
   pub some : 1 ≤ n

@@ -7,6 +7,7 @@ mod text;
 pub use table::classes;
 pub use table::fields_of;
 pub use text::permitted;
+pub use text::text_close;
 pub use text::text_end;
 
 // What reading a file of records comes to.

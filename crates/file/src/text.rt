@@ -3,7 +3,7 @@ ghost use mathlib.Core.Path.{_≡_};
 ghost use mathlib.Core.List.{_∷_};
 ghost use Prim.Native.Nat.{ℕ, _+_, _≤_, _<_};
 ghost use lib.ListN.{length, drop, getD};
-ghost use Rattle.file.specs.Bytes.{ends, goes, plainRun, classOf, matched, quote, permittedText};
+ghost use Rattle.file.specs.Bytes.{ends, goes, closes, plainRun, classOf, matched, quote, permittedText};
 ghost use Rattle.file.specs.Format.{ending};
 ghost use Rattle.file.specs.Reader.{Classes, Reached};
 
@@ -60,6 +60,24 @@ pub fn text_end(s: &[u8], at: usize, class: &[u8; 256]) -> usize
         }
         if ends_at(s, i) {
             return i;
+        }
+        i = plain_end(s, i + 1, class);
+    }
+    i
+}
+
+// inner: the place past the text's closing quote, where a comma or semicolon stands, or where the text stops if no field ends there.
+pub fn text_close(s: &[u8], at: usize, class: &[u8; 256]) -> usize
+    requires { ⌜ (at ≤ length (now s)) × Classes (now class) ⌝ }
+    ensures { λ r. ⌜ Reached (now (s .entry)) at (closes (drop at (now (s .entry)))) r ⌝ }
+{
+    let mut i = plain_end(s, at, class);
+    while i < s.len() {
+        if s[i] != b'"' {
+            return i;
+        }
+        if ends_at(s, i) {
+            return i + 1;
         }
         i = plain_end(s, i + 1, class);
     }

@@ -5,9 +5,9 @@ ghost use mathlib.Core.Bool.{true};
 ghost use Prim.Native.Nat.{ℕ, _+_, _≤_, _<_};
 ghost use lib.Dec.{ltb};
 ghost use lib.ListN.{length, drop};
-ghost use Rattle.file.specs.Bytes.{matched, starts};
-ghost use Rattle.file.specs.Fields.{closing, nextField, nextRecord, aheadOf, halt};
-ghost use Rattle.file.specs.Reader.{Classes, AheadNear, Sought, OpensAt, Inside, textAfter, Reads, textIn};
+ghost use Rattle.file.specs.Bytes.{starts};
+ghost use Rattle.file.specs.Fields.{closing, nextField, nextRecord, aheadOf, aheadFrom, halt};
+ghost use Rattle.file.specs.Reader.{Classes, AheadNear, EndsNear, Sought, OpensAt, Inside, textAfter, Reads, textIn};
 ghost use Rattle.file.specs.Answers.{numberedCounted, numberedStretch, recordsOf, stretchOf, textOf};
 ghost use Rattle.file.specs.Reading.{reading};
 use file::Ahead;
@@ -17,6 +17,7 @@ use file::Refusal;
 use file::Stretch;
 use file::classes;
 use file::fields_of;
+use file::text_close;
 use file::text_end;
 
 // The greatest length of a file.
@@ -32,27 +33,20 @@ fn stands(s: &[u8], at: usize, b: u8) -> bool
     false
 }
 
-// How many of the bytes that close a field stand from this place on.
-fn closed(s: &[u8], at: usize, last: bool) -> usize
-    requires { ⌜ at ≤ length (now s) ⌝ }
-    ensures { λ r. ⌜ r ≡ matched (closing last) (drop at (now (s .entry))) ⌝ }
+// Where what follows a record's last field comes to: semicolon, CR, LF from this place on.
+fn record_end(s: &[u8], at: usize) -> Ahead
+    ensures { λ r. ⌜ (r ≡ aheadFrom (now (s .entry)) true at) × EndsNear (now (s .entry)) at r ⌝ }
 {
-    if !stands(s, at, b'"') {
-        return 0;
+    if !stands(s, at, b';') {
+        return Ahead::Stop(at);
     }
-    if !last {
-        return if stands(s, at + 1, b',') { 2 } else { 1 };
+    if !stands(s, at + 1, b'\r') {
+        return Ahead::Stop(at + 1);
     }
-    if !stands(s, at + 1, b';') {
-        return 1;
+    if !stands(s, at + 2, b'\n') {
+        return Ahead::Stop(at + 2);
     }
-    if !stands(s, at + 2, b'\r') {
-        return 2;
-    }
-    if !stands(s, at + 3, b'\n') {
-        return 3;
-    }
-    4
+    Ahead::Field(at + 3)
 }
 
 // Where the field that starts at this place comes to.
@@ -63,14 +57,17 @@ fn field_end(s: &[u8], at: usize, last: bool, class: &[u8; 256]) -> Ahead
     if s[at] != b'"' {
         return Ahead::Stop(at);
     }
-    let end = text_end(s, at + 1, class);
-    let close = closed(s, end, last);
-    if close < closing_size(last) {
-        return Ahead::Stop(end + close);
+    let close = text_close(s, at + 1, class);
+    if last {
+        return record_end(s, close);
     }
-    Ahead::Field(end + close)
+    if !stands(s, close, b',') {
+        return Ahead::Stop(close);
+    }
+    Ahead::Field(close + 1)
 }
 
+// How many bytes close a field.
 fn closing_size(last: bool) -> usize
     ensures { λ r. ⌜ r ≡ length (closing last) ⌝ }
 {

@@ -1,41 +1,40 @@
--- `file::text::text_end` meets its contract. The loop's invariant: the text from `at` on ends where the text from `i` on ends, and no
+-- `file::text::text_end` meets its contract. The loop's invariant: the text from `at` on stops where the text from `i` on stops, and no
 -- plain byte stands at `i`.
 use mathlib.Core.Path.{_≡_, sym, _∙_}
-use Prim.Native.Nat.{_+_, _-_, _≤_, _<_}
+use Prim.Native.Nat.{_+_, _-_, _<_}
 use native.Mathlib.Omega.{arith}
 use borrow.Author.Needs.{needs}
-use lib.ListN.{length, drop}
+use lib.ListN.{length}
 use denote.Ref.{now}
-use Rattle.file.specs.Bytes.{plainRun, goes}
-use Rattle.file.proofs.TextLaws.{skipped, text-unfit, text-quote, text-ends, goes-end}
+use Rattle.file.proofs.TextLaws.{TextFrom, from-skip, from-end, from-unfit, from-ends, from-quote}
 use Rattle.file.proofs.text.text_end.Statement.{statement}
 use Rattle.file.proofs.text.text_end.Tie as tie
 
 abbrev Inv-loop : tie.InvT-loop
-Inv-loop s at class i₀ i = (i ≤ length s) × (i + goes (drop i s) ≡ at + goes (drop at s)) × (plainRun (drop i s) ≡ 0)
+Inv-loop s at class i₀ i = TextFrom s at i
 
 abbrev μ-loop : tie.MeasureT-loop
 μ-loop s at class i₀ i = length s - i
 
 loop-holds : tie.Need-loop-holds Inv-loop μ-loop
-loop-holds c =
-    let a = c .before .before .args in
-    let k = skipped (now (a .s)) (a .at) (c .plain-end .result) (c .plain-end .ensures .place) in
-    (c .plain-end .ensures .near, sym (k .0), k .1)
+loop-holds c = from-skip _ _ _ (c .plain-end .ensures)
 
 returns : tie.Need-returns Inv-loop μ-loop
 returns c =
     let p = c .before .before .before in
-    let s = now (p .before .before .before .args .s) in
-    let h : p .loop .i < length s = omega arith in
-    record { place = omega (arith, text-unfit s (p .loop .i) h (p .loop .inv .2) (c .if1 .taken)); near = omega arith }
+    let a = p .before .before .before .args in
+    let i = p .loop .i in
+    let e = from-unfit (now (a .s)) (a .at) i (p .loop .inv) (omega arith) (c .if1 .taken) in
+    record { place = e; near = p .loop .inv .near }
 
 returns-2 : tie.Need-returns-2 Inv-loop μ-loop
 returns-2 c =
     let p = c .before .before .before .before .before in
-    let s = now (p .before .before .before .args .s) in
-    let h : p .loop .i < length s = omega arith in
-    record { place = omega (arith, text-ends s (p .loop .i) h (sym (c .before .ends-at .ensures) ∙ c .if2 .taken)); near = omega arith }
+    let a = p .before .before .before .args in
+    let i = p .loop .i in
+    let h = sym (c .before .ends-at .ensures) ∙ c .if2 .taken in
+    let e = from-ends (now (a .s)) (a .at) i (p .loop .inv) (omega arith) h in
+    record { place = e; near = p .loop .inv .near }
 
 loop-less : tie.Need-loop-less Inv-loop μ-loop
 loop-less c = omega (arith, c .plain-end2 .ensures .place, c .plain-end2 .ensures .near)
@@ -43,18 +42,17 @@ loop-less c = omega (arith, c .plain-end2 .ensures .place, c .plain-end2 .ensure
 loop-again : tie.Need-loop-again Inv-loop μ-loop
 loop-again c =
     let p = c .before .before .before .before .before .before in
-    let s = now (p .before .before .before .args .s) in
-    let i = p .loop .i in
-    let h : i < length s = omega arith in
-    let e = c .before .before .ends-at .ensures in
-    let k = skipped s (i + 1) (c .plain-end2 .result) (c .plain-end2 .ensures .place) in
-    let q = text-quote s i h (c .before .before .before .if1 .left) (sym e ∙ c .before .if2 .left) in
-    (c .plain-end2 .ensures .near, omega (arith, k .0, q), k .1)
+    let a = p .before .before .before .args in
+    let h = sym (c .before .before .ends-at .ensures) ∙ c .before .if2 .left in
+    from-quote (now (a .s)) (a .at) (p .loop .i) (p .loop .inv) (omega arith) (c .before .before .before .if1 .left) h (c .plain-end2 .result) (c .plain-end2 .ensures)
 
 returns-3 : tie.Need-returns-3 Inv-loop μ-loop
 returns-3 c =
     let p = c .before in
-    record { place = omega (arith, goes-end (now (p .before .before .before .args .s)) (p .loop .i) (c .loop-test .left)); near = omega arith }
+    let a = p .before .before .before .args in
+    let i = p .loop .i in
+    let e = from-end (now (a .s)) (a .at) i (p .loop .inv) (c .loop-test .left) in
+    record { place = e; near = p .loop .inv .near }
 
 pub text-end-spec : {M : Type 1} → statement M
 text-end-spec =

@@ -5,7 +5,7 @@ use mathlib.Core.Bool.{Bool}
 use lib.Dec.{eqb, ltb}
 use lib.ListN.{getD, length, drop}
 use Rattle.laws.specs.Tests.{pick}
-use Rattle.file.specs.Bytes.{quote, goes, matched}
+use Rattle.file.specs.Bytes.{quote, goes, closes, matched, starts}
 use Rattle.file.specs.Format.{ending}
 use Rattle.file.specs.declared.Ahead.{Ahead}
 use Rattle.file.specs.declared.Ahead.the-variants.{Field, Stop}
@@ -50,3 +50,7 @@ aheadFrom s last at =
     pick (ltb (matched (ending last) (drop at s)) (length (ending last)))
     (Stop (at + matched (ending last) (drop at s)))
     (Field (at + matched (ending last) (drop at s)))
+
+-- where the field comes to whose opening quote is due at `at`, by what follows its text's closing
+unfoldable pub aheadAt : List ℕ → ℕ → Bool → Ahead
+aheadAt s at last = pick (starts quote (drop at s)) (aheadFrom s last (at + 1 + closes (drop (at + 1) s))) (Stop at)

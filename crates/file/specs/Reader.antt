@@ -2,13 +2,15 @@
 use Prim.Native.Nat.{ℕ, _+_, _≤_, _<_}
 use mathlib.Core.Path.{_≡_}
 use mathlib.Core.List.{List, [], _∷_}
+use lib.Dec.{ltb}
 use lib.ListN.{getD, length, drop}
 use Rattle.laws.specs.Tests.{pick, both}
 use Rattle.laws.specs.Numbered.{Numbered, answered, refused}
 use Rattle.file.specs.Answers.{spanOf}
 use Rattle.file.specs.Bytes.{classOf, goes}
 use Rattle.file.specs.Files.{among}
-use Rattle.file.specs.Reading.{Span, fresh, spans, reading}
+use Rattle.file.specs.Reading.{Span, fresh, spans, reading, opening, state, run, outcome}
+use Rattle.file.specs.Fields.{halt}
 use Rattle.file.specs.declared.Ahead.{Ahead}
 use Rattle.file.specs.declared.Outcome.the-variants.{Whole}
 use Rattle.file.specs.declared.Stretch.{Stretch}
@@ -32,6 +34,14 @@ AheadNear s at (Stop place) = place ≤ length s
 unfoldable pub EndsNear : List ℕ → ℕ → Ahead → Type 0
 EndsNear s at (Field next) = (at < next) × (next ≤ length s)
 EndsNear s at (Stop place) = at ≤ length s → place ≤ length s
+
+-- where the record comes to that starts at `at`, whatever records stand before it: the reading goes on at the next, or halts
+unfoldable pub RecordAhead : ℕ → List ℕ → ℕ → Ahead → Type 0
+RecordAhead n s at (Field next) =
+    (at < next)
+    × (next ≤ length s)
+    × ((k : ℕ) → run n (state opening 0 k at 0) (drop at s) ≡ run n (state opening 0 (k + 1) next 0) (drop next s))
+RecordAhead n s at (Stop place) = (place ≤ length s) × ((k : ℕ) → outcome (run n (state opening 0 k at 0) (drop at s)) ≡ halt place (ltb place (length s)))
 
 -- s is a legal file, and has a text that so many others stand before
 pub record Sought (n : ℕ) (s : List ℕ) (others : ℕ) : Type 0 where

@@ -6,8 +6,8 @@ ghost use Prim.Native.Nat.{ℕ, _+_, _≤_, _<_};
 ghost use lib.Dec.{ltb};
 ghost use lib.ListN.{length, drop};
 ghost use Rattle.file.specs.Bytes.{starts};
-ghost use Rattle.file.specs.Fields.{closing, nextField, nextRecord, aheadOf, aheadFrom, halt};
-ghost use Rattle.file.specs.Reader.{Classes, AheadNear, EndsNear, Sought, OpensAt, Inside, textAfter, Reads, textIn};
+ghost use Rattle.file.specs.Fields.{closing, nextField, aheadAt, aheadFrom, halt};
+ghost use Rattle.file.specs.Reader.{Classes, AheadNear, EndsNear, RecordAhead, Sought, OpensAt, Inside, textAfter, Reads, textIn};
 ghost use Rattle.file.specs.Answers.{numberedCounted, numberedStretch, recordsOf, stretchOf, textOf};
 ghost use Rattle.file.specs.Reading.{reading};
 use file::Ahead;
@@ -49,22 +49,37 @@ fn record_end(s: &[u8], at: usize) -> Ahead
     Ahead::Field(at + 3)
 }
 
-// Where the field that starts at this place comes to.
-fn field_end(s: &[u8], at: usize, last: bool, class: &[u8; 256]) -> Ahead
-    requires { ⌜ (at < length (now s)) × Classes (now class) ⌝ }
-    ensures { λ r. ⌜ (r ≡ aheadOf (now (s .entry)) at last) × AheadNear (now (s .entry)) at r ⌝ }
+// Where a record's last field comes to that is due at this place.
+fn last_field(s: &[u8], at: usize, class: &[u8; 256]) -> Ahead
+    requires { ⌜ (at ≤ length (now s)) × Classes (now class) ⌝ }
+    ensures { λ r. ⌜ (r ≡ aheadAt (now (s .entry)) at true) × AheadNear (now (s .entry)) at r ⌝ }
 {
-    if s[at] != b'"' {
+    if !stands(s, at, b'"') {
         return Ahead::Stop(at);
     }
     let close = text_close(s, at + 1, class);
-    if last {
-        return record_end(s, close);
+    record_end(s, close)
+}
+
+// Where the record that starts at this place comes to: its fields but the last, each with its comma, and then the last.
+fn record_ahead(s: &[u8], start: usize, n: usize, class: &[u8; 256]) -> Ahead
+    requires { ⌜ (start < length (now s)) × (1 ≤ n) × Classes (now class) ⌝ }
+    ensures { λ r. ⌜ RecordAhead n (now (s .entry)) start r ⌝ }
+{
+    let mut at = start;
+    let mut field = 1;
+    while field < n {
+        if !stands(s, at, b'"') {
+            return Ahead::Stop(at);
+        }
+        let close = text_close(s, at + 1, class);
+        if !stands(s, close, b',') {
+            return Ahead::Stop(close);
+        }
+        at = close + 1;
+        field += 1;
     }
-    if !stands(s, close, b',') {
-        return Ahead::Stop(close);
-    }
-    Ahead::Field(close + 1)
+    last_field(s, at, class)
 }
 
 // How many bytes close a field.
@@ -80,14 +95,6 @@ fn next_field(last: bool, field: usize) -> usize
     ensures { λ r. ⌜ r ≡ nextField last field ⌝ }
 {
     if last { 0 } else { field + 1 }
-}
-
-// The records ended after one more field.
-fn next_record(last: bool, records: usize) -> usize
-    requires { ⌜ records < 18446744073709551615 ⌝ }
-    ensures { λ r. ⌜ r ≡ nextRecord last records ⌝ }
-{
-    if last { records + 1 } else { records }
 }
 
 // A reading that gets no further than this place.
@@ -106,21 +113,15 @@ fn scan(s: &[u8], n: usize, class: &[u8; 256]) -> Outcome
     ensures { λ r. ⌜ r ≡ reading n (now (s .entry)) ⌝ }
 {
     let mut at = 0;
-    let mut field = 0;
     let mut records = 0;
     while at < s.len() {
-        let last = field + 1 == n;
-        match field_end(s, at, last, class) {
+        match record_ahead(s, at, n, class) {
             Ahead::Stop(place) => return halted(s, place),
             Ahead::Field(next) => at = next,
         }
-        field = next_field(last, field);
-        records = next_record(last, records);
+        records += 1;
     }
-    if field == 0 {
-        return Outcome::Whole(records);
-    }
-    Outcome::CutShort(at)
+    Outcome::Whole(records)
 }
 
 // inner: what the reading of a file whose records have n fields comes to.

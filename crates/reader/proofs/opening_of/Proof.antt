@@ -1,15 +1,15 @@
 -- `reader::opening_of` meets its contract. The loop's invariant: from `at` on, `left` texts stand before the one that is sought. In a
 -- legal file a text's whole closing stands where it ends, so the next field starts past it.
-use mathlib.Core.Path.{_≡_, refl, sym, _∙_}
-use Prim.Native.Nat.{ℕ, _+_, _-_, _≤_, _<_}
+use mathlib.Core.Path.{_≡_}
+use Prim.Native.Nat.{_+_, _<_}
 use native.Mathlib.Omega.{arith}
 use borrow.Author.Needs.{needs}
 use lib.ListN.{length}
 use denote.Ref.{now}
-use Rattle.file.specs.Fields.{closing, endOf, nextField}
+use Rattle.file.specs.Fields.{closing, endOf}
 use Rattle.file.specs.Reading.{isLast}
 use Rattle.file.proofs.Beginnings.{fewer}
-use Rattle.file.proofs.FieldLaws.{TextsLeft, left-first, left-ahead, past, past-near, left-past, left-none}
+use Rattle.file.proofs.FieldLaws.{TextsLeft, left-first, left-ahead, past-near, left-past, left-none}
 use Rattle.reader.proofs.opening_of.Statement.{statement}
 use Rattle.reader.proofs.opening_of.Tie as tie
 

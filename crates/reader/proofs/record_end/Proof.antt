@@ -1,8 +1,8 @@
 -- `reader::record_end` meets its contract: byte by byte, each stands where it is due, or the record breaks off there.
-use mathlib.Core.Path.{_≡_, refl, sym, ap, _∙_}
+use mathlib.Core.Path.{refl, sym, ap, _∙_}
 use mathlib.Core.Bool.{true}
 use mathlib.Core.List.{[], _∷_}
-use Prim.Native.Nat.{ℕ, suc, _+_, _<_}
+use Prim.Native.Nat.{suc, _+_}
 use native.Mathlib.Nat.{add-zero}
 use native.Mathlib.Omega.{arith}
 use borrow.Author.Needs.{needs}
@@ -10,7 +10,6 @@ use borrow.Author.Tests.{not-true, not-false}
 use denote.Ref.{now}
 use Rattle.file.specs.Bytes.{semicolon, CR, LF}
 use Rattle.file.specs.Reader.{EndsNear}
-use Rattle.file.specs.declared.Ahead.{Ahead}
 use Rattle.file.specs.declared.Ahead.the-variants.{Stop}
 use Rattle.file.proofs.FieldLaws.{matched-more, matched-none, matched-done, from-stop, from-field}
 use Rattle.reader.proofs.record_end.Statement.{statement}

@@ -8,3 +8,4 @@ pub mod Answers
 pub mod Places
 pub mod Fields
 pub mod Reader
+pub mod OneResult

@@ -9,3 +9,4 @@ pub mod Places
 pub mod Fields
 pub mod Reader
 pub mod Records
+pub mod OneResult

@@ -1,3 +1,4 @@
 pub mod Days
 pub mod DaysSettled
 pub mod Files
+pub mod FilesSettled

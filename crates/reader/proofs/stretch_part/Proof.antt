@@ -27,7 +27,7 @@ returns c =
     let v : start ∷ size ∷ [] ≡ stretchOf (a .file) (now (a .s)) (a .r) (a .f) .values =
     ap (λ (z : Numbered). z .values) (rw (p .start .given .1) at (p .before .before .locate .ensures .0)) in
     let e : start + size - start ≡ size = omega arith in
-    rw (e, ← v)
+    ap (λ (n : ℕ). take n (drop start (now (a .s)))) e ∙ ap (stretchIn (now (a .s))) v
 
 returns-2 : tie.Need-returns-2
 unfolding numberedStretch stretchIn

@@ -9,13 +9,13 @@ use Rattle.slovdrim.proofs.files.slovdrim_stretch.Tie as tie
 
 returns : tie.Need-returns
 unfolding numberedStretch stretchResult
-returns c = rw (← c .before .before .before .stretch-of .ensures, c .before .start .given .1)
+returns c = ap stretchResult (rw (c .before .start .given .1) at (c .before .before .before .stretch-of .ensures))
 
 returns-2 : tie.Need-returns-2
 unfolding numberedStretch
 returns-2 c =
     let p = c .before .before in
-    rw (← p .before .before .stretch-of .ensures, p .why .given .1) (ap stretchAt (c .place-of .ensures) ∙ refused-stretch (p .why .given .0 .0))
+    ap stretchAt (c .place-of .ensures) ∙ refused-stretch (p .why .given .0 .0) ∙ ap stretchResult (rw (p .why .given .1) at (p .before .before .stretch-of .ensures))
 
 pub slovdrim-stretch-spec : {M : Type 1} → statement M
 slovdrim-stretch-spec =

@@ -7,29 +7,36 @@ use native.Mathlib.Numerals.{add-one}
 use native.Mathlib.Omega.{arith}
 use lib.ListN.{length, getD, drop, length-append, length-drop, drop-of-length-le}
 use lib.Seq.{drop-cons, ext-getD}
-use Rattle.file.specs.Format.{Fields, writtenRecord, written, PermittedTexts, Permitted}
+use Rattle.file.specs.Format.{Text, Fields, writtenRecord, written, PermittedTexts, Permitted}
 use Rattle.file.specs.Reader.{Reads}
 use Rattle.file.specs.Reading.{run, outcomeIn}
 use Rattle.file.specs.Records.{upTo, recordsBy, recordsIn}
 use Rattle.file.proofs.PlaceLaws.{read-count}
 use Rattle.file.proofs.RecordLaws.{size-upTo, at-upTo, written-records, legible}
 use Rattle.walk.specs.Walk.{LegalFrom, RecordAt, startOf, endOf, partOf, cutRecord, Stands, Cuts}
-use Rattle.walk.proofs.PlaceLaws.{textStart, TextHere, Marked, place-near, past-record, behind-record, text-here, size-record}
+use Rattle.walk.proofs.StartLaws.{textStart, TextHere, Marked, place-near, past-record, behind-record, text-here, size-record}
 
--- the record that is cut has n texts, and text i is the part that its places say
+-- the record that is cut has n texts
 pub cut-size : (n : ℕ) (s places : List ℕ) → length (cutRecord n s places) ≡ n
 unfolding cutRecord
 cut-size n s places = size-upTo n _
 
-pub cut-text : (n : ℕ) (s places : List ℕ) (i : ℕ) → i < n → getD (cutRecord n s places) i [] ≡ partOf s places i
+-- text i is the part that its places say
+pub cut-text : (n : ℕ) (s places : List ℕ) (i : ℕ) → i < n → (t : Text) → t ≡ partOf s places i → getD (cutRecord n s places) i [] ≡ t
 unfolding cutRecord
-cut-text n s places i h = at-upTo n (λ j. partOf s places j) i [] h
+cut-text n s places i h t e = at-upTo n (λ j. partOf s places j) i [] h ∙ sym e
 
 -- the texts from i on, for a pass over them
-pub cut-left : (n : ℕ) (s places : List ℕ) (i : ℕ) → i < n → drop i (cutRecord n s places) ≡ partOf s places i ∷ drop (i + 1) (cutRecord n s places)
-cut-left n s places i h =
+pub cut-left : (n : ℕ) (s places : List ℕ) (i : ℕ) → i < n → (t : Text) → t ≡ partOf s places i
+    → drop i (cutRecord n s places) ≡ t ∷ drop (i + 1) (cutRecord n s places)
+cut-left n s places i h t e =
     let k : i < length (cutRecord n s places) = omega (arith, cut-size n s places) in
-    rw (add-one, drop-cons (cutRecord n s places) i [] k, cut-text n s places i h)
+    rw (add-one, drop-cons (cutRecord n s places) i [] k, cut-text n s places i h t e)
+
+pub cut-end : (n : ℕ) (s places : List ℕ) (i : ℕ) → n ≤ i → drop i (cutRecord n s places) ≡ []
+cut-end n s places i h =
+    let k : length (cutRecord n s places) ≤ i = omega (arith, cut-size n s places) in
+    drop-of-length-le (cutRecord n s places) k
 
 -- a legal file is legal from its start on
 pub legal-start : (n : ℕ) (s : List ℕ) (k : ℕ) → Reads n s k → LegalFrom n s 0
@@ -102,7 +109,7 @@ module _ (n : ℕ) (s : List ℕ) (at : ℕ) (h : RecordAt n s at) where
     stands i l =
         let a = m .starts i (omega arith) in
         let b = m .starts (i + 1) (omega arith) in
-        record { order = omega (arith, text-at i l .size); near = omega (arith, near-at (i + 1)) }
+        record { few = omega (arith, h .room); order = omega (arith, text-at i l .size); near = omega (arith, near-at (i + 1)) }
 
     same-text : (i : ℕ) → i < n → partOf s places i ≡ getD first i []
     unfolding partOf
@@ -115,7 +122,7 @@ module _ (n : ℕ) (s : List ℕ) (at : ℕ) (h : RecordAt n s at) where
     same-record : cutRecord n s places ≡ first
     same-record =
         ext-getD [] (cutRecord n s places) first (cut-size n s places ∙ sym (opens .shape))
-        (λ i l. let k : i < n = omega (arith, cut-size n s places) in cut-text n s places i k ∙ same-text i k)
+        (λ i l. let k : i < n = omega (arith, cut-size n s places) in cut-text n s places i k (partOf s places i) refl ∙ same-text i k)
 
     pub cuts : (next : ℕ) → next ≡ textStart at first n + 1 → Cuts n s at old places next
     cuts next e =

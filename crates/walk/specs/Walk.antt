@@ -33,8 +33,9 @@ partOf s places i = take (endOf places i - startOf places i) (drop (startOf plac
 unfoldable pub cutRecord : ℕ → List ℕ → List ℕ → Fields
 cutRecord n s places = upTo n (λ i. partOf s places i)
 
--- text i stands in s
+-- text i stands in s, and its places are among the fourteen
 pub record Stands (s places : List ℕ) (i : ℕ) : Type 0 where
+  pub few : i < 13
   pub order : startOf places i + 3 ≤ startOf places (i + 1)
   pub near : endOf places i ≤ length s
 

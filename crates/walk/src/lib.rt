@@ -34,7 +34,7 @@ pub fn cut(s: &[u8], at: usize, n: usize, class: &[u8; 256], places: &mut [usize
 
 // inner: text i of a record that was cut, a part of s.
 pub fn part<'a>(s: &'a [u8], places: &[usize; 14], i: usize) -> &'a [u8]
-    requires { ⌜ (i < 13) × Stands (now s) (now places) i ⌝ }
+    requires { ⌜ Stands (now s) (now places) i ⌝ }
     ensures { λ r. ⌜ now r ≡ partOf (now (s .entry)) (now (places .entry)) i ⌝ }
 {
     let start = places[i];

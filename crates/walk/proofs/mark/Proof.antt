@@ -5,7 +5,7 @@ use Prim.Native.Nat.{ℕ, _+_, _-_, _≤_}
 use native.Mathlib.Omega.{arith}
 use lib.ListN.{length, length-set}
 use denote.Ref.{now}
-use Rattle.walk.proofs.PlaceLaws.{textStart, start-first, Marked, mark-none, mark-one}
+use Rattle.walk.proofs.StartLaws.{textStart, start-first, Marked, mark-none, mark-one}
 use Rattle.walk.proofs.WalkLaws.{firstRecord, text-at, near-at, cuts}
 use Rattle.walk.proofs.mark.Statement.{statement}
 use Rattle.walk.proofs.mark.Tie as tie

@@ -7,7 +7,7 @@ ghost use Rattle.walk.specs.Walk.{RecordAt, Cuts, Stands, partOf};
 use file::text_end;
 
 // Marks where each text of the record that starts at `at` starts, and where one behind the last would; answers where the next record
-// starts. A legal file needs no look at what closes a field.
+// starts. A legal file needs no look at what closes a field. The places come as a slice, since the proof has to know how many there are.
 fn mark(s: &[u8], at: usize, n: usize, class: &[u8; 256], places: &mut [usize]) -> usize
     requires { ⌜ RecordAt n (now s) at × Classes (now class) × (n < length (now places)) ⌝ }
     ensures { λ r. ⌜ Cuts n (now (s .entry)) at (now (places .entry)) (now (places .exit)) r ⌝ }

@@ -31,7 +31,7 @@ ends-before b [] c h = go (eqb b quote)
 ends-before b (x ∷ t) c h = h
 
 -- a permitted text goes on to its closing quote, and no further
-goes-text : (t : Text) (last : Bool) (rest : List ℕ) → permittedText t ≡ true → goes (t ++ (closing last ++ rest)) ≡ length t
+pub goes-text : (t : Text) (last : Bool) (rest : List ℕ) → permittedText t ≡ true → goes (t ++ (closing last ++ rest)) ≡ length t
 unfolding permittedText goes goesOn ends
 goes-text [] true rest p = goes-ends quote (ending true ++ rest) refl
 goes-text [] false rest p = goes-ends quote (ending false ++ rest) refl

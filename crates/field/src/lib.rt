@@ -1,4 +1,20 @@
 // The kinds of fields, and the values of digits: document 01, "Fields", and the tables of 000.
+mod admits;
+mod kinds;
+mod values;
+
+pub use admits::admits_text;
+pub use admits::is_sized;
+pub use kinds::kind_of;
+pub use values::all_digits;
+pub use values::day_of;
+pub use values::is_byte;
+pub use values::is_date;
+pub use values::is_digits;
+pub use values::is_one_of;
+pub use values::is_time;
+pub use values::minute_of;
+pub use values::value_of;
 
 // What a field may hold.
 pub enum Kind {

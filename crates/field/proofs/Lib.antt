@@ -1,0 +1,3 @@
+pub mod ValueLaws
+pub mod KindLaws
+pub mod AdmitLaws

@@ -1,0 +1,41 @@
+-- Laws of the first fault of a file: what one field, or one record, says of those that are left.
+use mathlib.Core.Path.{_≡_, refl, sym, _∙_}
+use mathlib.Core.Bool.{true, false}
+use mathlib.Core.List.{List, [], _∷_}
+use Prim.Native.Nat.{ℕ, _+_}
+use borrow.Author.Tests.{eq-eqb, ne-eqb}
+use Rattle.laws.specs.Numbered.{answered, refusedIn}
+use Rattle.file.specs.Format.{Text, Fields}
+use Rattle.field.specs.Kinds.{kindOf, admits}
+use Rattle.field.specs.Rules.{meets}
+use Rattle.field.specs.Stage.{firstUnkind, recordFault, faultsFrom}
+
+module _ (file f : ℕ) (t : Text) (ts qs : Fields) (e : qs ≡ t ∷ ts) where
+  pub unkind-turn : admits (kindOf file f) t ≡ true → firstUnkind file f qs ≡ firstUnkind file (f + 1) ts
+  unfolding firstUnkind
+  unkind-turn h = rw (e, h)
+
+  pub unkind-hit : admits (kindOf file f) t ≡ false → firstUnkind file f qs ≡ f
+  unfolding firstUnkind
+  unkind-hit h = rw (e, h)
+
+pub unkind-done : (file f : ℕ) (qs : Fields) → qs ≡ [] → firstUnkind file f qs ≡ 0
+unfolding firstUnkind
+unkind-done file f qs e = rw e
+
+module _ (file k : ℕ) (r : Fields) (rs qs : List Fields) (e : qs ≡ r ∷ rs) where
+  pub fault-field : (f : ℕ) → f ≡ firstUnkind file 1 r → (f ≡ 0 → ⊥) → faultsFrom file k qs ≡ refusedIn 5 file k f
+  unfolding faultsFrom recordFault
+  fault-field f g h = rw (e, ← g, ne-eqb f 0 h)
+
+  pub fault-rule : (f : ℕ) → f ≡ firstUnkind file 1 r → f ≡ 0 → meets file r ≡ false → faultsFrom file k qs ≡ refusedIn 6 file k 0
+  unfolding faultsFrom recordFault
+  fault-rule f g h m = rw (e, ← g, eq-eqb f 0 h, m)
+
+  pub fault-none : (f : ℕ) → f ≡ firstUnkind file 1 r → f ≡ 0 → meets file r ≡ true → faultsFrom file k qs ≡ faultsFrom file (k + 1) rs
+  unfolding faultsFrom recordFault
+  fault-none f g h m = rw (e, ← g, eq-eqb f 0 h, m)
+
+pub fault-done : (file k : ℕ) (qs : List Fields) → qs ≡ [] → faultsFrom file k qs ≡ answered []
+unfolding faultsFrom
+fault-done file k qs e = rw e

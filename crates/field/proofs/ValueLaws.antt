@@ -1,6 +1,6 @@
 -- Laws of texts and of the values of digits. A text of one byte is seen from that byte; digits that are left, a part of digits, and
 -- what n digits are worth: less than 10 to the n.
-use mathlib.Core.Path.{_≡_, refl, sym, ap, _∙_}
+use mathlib.Core.Path.{_≡_, refl}
 use mathlib.Core.Bool.{Bool, true, false}
 use mathlib.Core.List.{List, [], _∷_}
 use Prim.Native.Nat.{ℕ, zero, suc, _+_, _-_, _*_, _^_, _≤_, _<_}
@@ -8,10 +8,10 @@ use native.Mathlib.Nat.{pow-le-pow-right, pow-suc, add-zero, zero-add}
 use native.Mathlib.Numerals.{add-one}
 use native.Mathlib.Omega.{arith}
 use lib.Dec.{eqb, leb}
-use lib.ListN.{length, getD, take, drop, drop-of-length-le, length-take, length-drop}
-use lib.Seq.{drop-cons, length-take-le}
-use borrow.Author.Tests.{eqb-true, leb-true, leb-false, le-leb, lt-leb}
-use Rattle.laws.specs.Tests.{both, oneOf, either, never, both-left, both-right, both-false}
+use lib.ListN.{length, getD, take, drop, drop-of-length-le}
+use lib.Seq.{drop-cons}
+use borrow.Author.Tests.{leb-true, le-leb, lt-leb}
+use Rattle.laws.specs.Tests.{both, never, both-left, both-right, both-false}
 use Rattle.calendar.specs.Dates.{isDate}
 use Rattle.calendar.specs.Real.{real, number-day}
 use Rattle.file.specs.Format.{Text}
@@ -132,19 +132,26 @@ value-under (b ∷ t) v i e h =
 pub value-bound : (t : Text) → allDigits t ≡ true → value t < 10 ^ length t
 value-bound t e = rw zero-add at (value-under t 0 0 e (omega arith))
 
--- so many digits, by their number
-pub record Sized (n : ℕ) (t : Text) : Type 0 where
+-- from a to b digits
+pub record Digits (a b : ℕ) (t : Text) : Type 0 where
   pub digits : allDigits t ≡ true
-  pub size : length t ≡ n
+  pub least : a ≤ length t
+  pub most : length t ≤ b
 
-pub digits-are : (n : ℕ) (t : Text) → isDigits n n t ≡ true → Sized n t
-digits-are n t e =
-    let a = leb n (length t) in
-    let b = leb (length t) n in
-    let p : both a b ≡ true = both-left (both a b) (allDigits t) e in
-    let low : n ≤ length t = leb-true _ _ (both-left a b p) in
-    let high : length t ≤ n = leb-true _ _ (both-right a b p) in
-    record { digits = both-right (both a b) (allDigits t) e; size = omega arith }
+pub digits-are : (a b : ℕ) (t : Text) → isDigits a b t ≡ true → Digits a b t
+digits-are a b t e =
+    let low = leb a (length t) in
+    let high = leb (length t) b in
+    let p : both low high ≡ true = both-left (both low high) (allDigits t) e in
+    record {
+      digits = both-right (both low high) (allDigits t) e;
+      least = leb-true _ _ (both-left low high p);
+      most = leb-true _ _ (both-right low high p);
+    }
+
+-- and what they are worth at most
+pub digits-bound : (a b : ℕ) (t : Text) → isDigits a b t ≡ true → value t < 10 ^ b
+digits-bound a b t e = let d = digits-are a b t e in omega (arith, value-bound t (d .digits), power-most (length t) b (d .most))
 
 -- what a date says of its digits and of its parts
 module _ (t : Text) where
@@ -160,9 +167,9 @@ module _ (t : Text) where
       go true h = refl
       go false h = never h
 
-  pub date-digits : isDateText t ≡ true → Sized 8 t
+  pub date-digits : isDateText t ≡ true → Digits 8 8 t
   unfolding isDateText
-  date-digits e = digits-are 8 t (both-left (isDigits 8 8 t) (isDate (dayPart t) (monthPart t) (yearPart t)) e)
+  date-digits e = digits-are 8 8 t (both-left (isDigits 8 8 t) (isDate (dayPart t) (monthPart t) (yearPart t)) e)
 
   pub date-real : isDateText t ≡ true → isDate (dayPart t) (monthPart t) (yearPart t) ≡ true
   unfolding isDateText
@@ -190,9 +197,9 @@ module _ (t : Text) where
       go true h = refl
       go false h = never h
 
-  pub time-digits : isTime t ≡ true → Sized 4 t
+  pub time-digits : isTime t ≡ true → Digits 4 4 t
   unfolding isTime
-  time-digits e = digits-are 4 t (both-left (isDigits 4 4 t) inDay e)
+  time-digits e = digits-are 4 4 t (both-left (isDigits 4 4 t) inDay e)
 
   pub time-bounds : isTime t ≡ true → (hourPart t ≤ 23) × (minutePart t ≤ 59)
   unfolding isTime

@@ -1,5 +1,5 @@
 -- `field::admits::is_time_field` meets its contract: the text is empty or one of the two bytes, or a time.
-use mathlib.Core.Path.{sym, _∙_}
+use mathlib.Core.Path.{_∙_}
 use borrow.Author.Needs.{needs}
 use Rattle.field.specs.Kinds.{admits}
 use Rattle.field.proofs.AdmitLaws.{of-three}

@@ -38,14 +38,30 @@ returns-7 c = rw (c .match .keys7)
 
 returns-8 : tie.Need-returns-8
 unfolding altdop
-returns-8 c = sym (run (Kind.None ∷ altdop) (drop 10 (Kind.None ∷ altdop)) 4 6 code Kind.None _ refl (past 1 3 _ (c .before .before .match .rest .0 .0 .0 .0) (c .before .if1 .left)) (c .if2 .taken))
+returns-8 c =
+    let r = c .before .before .match .rest in
+    sym (run (Kind.None ∷ altdop) (drop 10 (Kind.None ∷ altdop)) 4 6 code Kind.None _ refl (past 1 3 _ (r .0 .0 .0 .0) (c .before .if1 .left)) (c .if2 .taken))
 
 returns-9 : tie.Need-returns-9
 returns-9 c = sym (at-zero altdop _ (c .if1 .taken))
 
 returns-10 : tie.Need-returns-10
 unfolding altdop
-returns-10 c = sym (past-end altdop _ (up 13 (up 12 (up 11 (up 10 (c .if2 .left) (c .before .before .match .rest .0 .0 .0 .1)) (c .before .before .match .rest .0 .0 .1)) (c .before .before .match .rest .0 .1)) (c .before .before .match .rest .1)))
+returns-10 c =
+    let r = c .before .before .match .rest in
+    sym (past-end altdop _ (up 13 (up 12 (up 11 (up 10 (c .if2 .left) (r .0 .0 .0 .1)) (r .0 .0 .1)) (r .0 .1)) (r .1)))
 
 pub altdop-kind-spec : {M : Type 1} → statement M
-altdop-kind-spec = tie.close (tie.spec returns returns-2 returns-3 returns-4 returns-5 returns-6 returns-7 returns-8 returns-9 returns-10)
+altdop-kind-spec =
+    tie.close
+    (tie.spec
+    returns
+    returns-2
+    returns-3
+    returns-4
+    returns-5
+    returns-6
+    returns-7
+    returns-8
+    returns-9
+    returns-10)

@@ -37,7 +37,9 @@ returns-7 c = rw (c .match .keys7)
 
 returns-8 : tie.Need-returns-8
 unfolding dopravci
-returns-8 c = sym (run (Kind.None ∷ dopravci) [] 8 4 (maybeText 48) Kind.None _ refl (past 1 7 _ (c .before .before .match .rest) (c .before .if1 .left)) (c .if2 .taken))
+returns-8 c =
+    let r = c .before .before .match .rest in
+    sym (run (Kind.None ∷ dopravci) [] 8 4 (maybeText 48) Kind.None _ refl (past 1 7 _ r (c .before .if1 .left)) (c .if2 .taken))
 
 returns-9 : tie.Need-returns-9
 returns-9 c = sym (at-zero dopravci _ (c .if1 .taken))
@@ -47,4 +49,16 @@ unfolding dopravci
 returns-10 c = sym (past-end dopravci _ (c .if2 .left))
 
 pub dopravci-kind-spec : {M : Type 1} → statement M
-dopravci-kind-spec = tie.close (tie.spec returns returns-2 returns-3 returns-4 returns-5 returns-6 returns-7 returns-8 returns-9 returns-10)
+dopravci-kind-spec =
+    tie.close
+    (tie.spec
+    returns
+    returns-2
+    returns-3
+    returns-4
+    returns-5
+    returns-6
+    returns-7
+    returns-8
+    returns-9
+    returns-10)

@@ -50,4 +50,17 @@ unfolding linky
 returns-11 c = sym (no-field linky _ (c .match .rest))
 
 pub linky-kind-spec : {M : Type 1} → statement M
-linky-kind-spec = tie.close (tie.spec returns returns-2 returns-3 returns-4 returns-5 returns-6 returns-7 returns-8 returns-9 returns-10 returns-11)
+linky-kind-spec =
+    tie.close
+    (tie.spec
+    returns
+    returns-2
+    returns-3
+    returns-4
+    returns-5
+    returns-6
+    returns-7
+    returns-8
+    returns-9
+    returns-10
+    returns-11)

@@ -17,7 +17,9 @@ returns-2 c = rw (c .match .keys2)
 
 returns-3 : tie.Need-returns-3
 unfolding spoje
-returns-3 c = sym (run (Kind.None ∷ spoje) [] 3 10 code Kind.None _ refl (past 1 2 _ (c .before .before .match .rest) (c .before .if1 .left)) (c .if2 .taken))
+returns-3 c =
+    let r = c .before .before .match .rest in
+    sym (run (Kind.None ∷ spoje) [] 3 10 code Kind.None _ refl (past 1 2 _ r (c .before .if1 .left)) (c .if2 .taken))
 
 returns-4 : tie.Need-returns-4
 returns-4 c = sym (at-zero spoje _ (c .if1 .taken))

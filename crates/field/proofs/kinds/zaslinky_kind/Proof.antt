@@ -25,7 +25,9 @@ returns-4 c = rw (c .match .keys4)
 
 returns-5 : tie.Need-returns-5
 unfolding zaslinky
-returns-5 c = sym (run (Kind.None ∷ zaslinky) [] 5 3 code Kind.None _ refl (past 1 4 _ (c .before .before .match .rest) (c .before .if1 .left)) (c .if2 .taken))
+returns-5 c =
+    let r = c .before .before .match .rest in
+    sym (run (Kind.None ∷ zaslinky) [] 5 3 code Kind.None _ refl (past 1 4 _ r (c .before .if1 .left)) (c .if2 .taken))
 
 returns-6 : tie.Need-returns-6
 returns-6 c = sym (at-zero zaslinky _ (c .if1 .taken))

@@ -50,4 +50,17 @@ unfolding zasspoje
 returns-11 c = sym (no-field zasspoje _ (c .match .rest))
 
 pub zasspoje-kind-spec : {M : Type 1} → statement M
-zasspoje-kind-spec = tie.close (tie.spec returns returns-2 returns-3 returns-4 returns-5 returns-6 returns-7 returns-8 returns-9 returns-10 returns-11)
+zasspoje-kind-spec =
+    tie.close
+    (tie.spec
+    returns
+    returns-2
+    returns-3
+    returns-4
+    returns-5
+    returns-6
+    returns-7
+    returns-8
+    returns-9
+    returns-10
+    returns-11)

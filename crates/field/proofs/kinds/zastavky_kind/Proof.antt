@@ -33,7 +33,9 @@ returns-6 c = rw (c .match .keys6)
 
 returns-7 : tie.Need-returns-7
 unfolding zastavky
-returns-7 c = sym (run (Kind.None ∷ zastavky) [] 7 6 code Kind.None _ refl (past 1 6 _ (c .before .before .match .rest) (c .before .if1 .left)) (c .if2 .taken))
+returns-7 c =
+    let r = c .before .before .match .rest in
+    sym (run (Kind.None ∷ zastavky) [] 7 6 code Kind.None _ refl (past 1 6 _ r (c .before .if1 .left)) (c .if2 .taken))
 
 returns-8 : tie.Need-returns-8
 returns-8 c = sym (at-zero zastavky _ (c .if1 .taken))

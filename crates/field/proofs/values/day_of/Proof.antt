@@ -1,7 +1,6 @@
 -- `field::values::day_of` meets its contract: a date's parts are those of a real date.
 use mathlib.Core.Path.{_∙_}
 use native.Mathlib.Omega.{arith}
-use denote.Ref.{now}
 use Rattle.field.specs.Values.{dayOfText}
 use Rattle.field.proofs.ValueLaws.{date-digits, date-real}
 use Rattle.field.proofs.values.day_of.Statement.{statement}

@@ -6,7 +6,7 @@ use borrow.Author.Needs.{needs}
 use borrow.Author.Tests.{not-true, not-false}
 use denote.Ref.{now}
 use Rattle.field.specs.Values.{isDigits}
-use Rattle.field.proofs.ValueLaws.{Sized, digits-are, date-unless, date-when}
+use Rattle.field.proofs.ValueLaws.{digits-are, date-unless, date-when}
 use Rattle.field.proofs.values.is_date.Statement.{statement}
 use Rattle.field.proofs.values.is_date.Tie as tie
 
@@ -18,13 +18,13 @@ returns : tie.Need-returns
 returns c = sym (date-unless _ (sym (c .before .is-digits .ensures) ∙ not-true _ (c .if1 .taken)))
 
 two-at-requires : tie.Need-two-at-requires
-two-at-requires c κs = let d = digits-are 8 _ (eight c) in (d .digits, omega arith)
+two-at-requires c κs = let d = digits-are 8 8 _ (eight c) in (d .digits, omega arith)
 
 two-at-requires-2 : tie.Need-two-at-requires-2
-two-at-requires-2 c κs = let d = digits-are 8 _ (eight (c .before)) in (d .digits, omega arith)
+two-at-requires-2 c κs = let d = digits-are 8 8 _ (eight (c .before)) in (d .digits, omega arith)
 
 rest-at-requires : tie.Need-rest-at-requires
-rest-at-requires c κs = let d = digits-are 8 _ (eight (c .before .before)) in (d .digits, omega arith, omega arith)
+rest-at-requires c κs = let d = digits-are 8 8 _ (eight (c .before .before)) in (d .digits, omega arith, omega arith)
 
 returns-2 : tie.Need-returns-2
 returns-2 c =

@@ -1,7 +1,7 @@
 -- `field::values::is_one_of` meets its contract. The loop's invariant: whether the byte is among what is left of the set is whether it
 -- is among the whole.
 use mathlib.Core.Path.{_≡_, sym, _∙_}
-use Prim.Native.Nat.{_+_, _-_, _≤_, _<_}
+use Prim.Native.Nat.{_-_, _≤_}
 use native.Mathlib.Omega.{arith}
 use borrow.Author.Needs.{needs}
 use lib.ListN.{length, drop}

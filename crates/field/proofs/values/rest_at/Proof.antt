@@ -1,9 +1,8 @@
 -- `field::values::rest_at` meets its contract: what is left of digits is digits, and a part that goes to the end is the rest.
-use mathlib.Core.Path.{_≡_, _∙_}
-use Prim.Native.Nat.{_-_, _≤_}
+use mathlib.Core.Path.{_∙_}
 use native.Mathlib.Omega.{arith}
 use borrow.Author.Needs.{needs}
-use lib.ListN.{length, drop, length-drop}
+use lib.ListN.{length-drop}
 use denote.Ref.{now}
 use Rattle.laws.specs.Splice.{mid-all}
 use Rattle.field.proofs.ValueLaws.{digits-drop}

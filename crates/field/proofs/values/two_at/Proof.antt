@@ -1,9 +1,9 @@
 -- `field::values::two_at` meets its contract: a part of digits is digits, and this one has two.
 use mathlib.Core.Path.{_≡_, _∙_}
-use Prim.Native.Nat.{_+_, _-_, _≤_}
+use Prim.Native.Nat.{_+_, _-_}
 use native.Mathlib.Omega.{arith}
 use borrow.Author.Needs.{needs}
-use lib.ListN.{length, drop, length-take, length-drop}
+use lib.ListN.{drop, length-take, length-drop}
 use denote.Ref.{now}
 use Rattle.field.proofs.ValueLaws.{digits-take, digits-drop}
 use Rattle.field.proofs.values.two_at.Statement.{statement}

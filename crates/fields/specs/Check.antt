@@ -1,15 +1,18 @@
 -- What the check of one file comes back with: its own refusal, or its first 5 or 6. File 1 has neither: it has refusal 4 alone.
-use Prim.Native.Nat.{ℕ}
+use Prim.Native.Nat.{ℕ, _≤_}
+use mathlib.Core.Path.{_≡_}
+use mathlib.Core.Bool.{true}
 use mathlib.Core.List.{List, []}
 use lib.Dec.{eqb}
 use Rattle.laws.specs.Tests.{pick}
 use Rattle.laws.specs.Numbered.{Numbered, answered, refusedAt, refusedIn}
 use Rattle.file.specs.Answers.{asked, numbered}
-use Rattle.file.specs.Files.{fieldsOf}
+use Rattle.file.specs.Files.{isFile, fieldsOf}
 use Rattle.file.specs.Records.{recordsIn}
 use Rattle.file.specs.declared.Outcome.{Outcome}
 use Rattle.file.specs.declared.Outcome.the-variants.{Whole, Unfit, CutShort}
 use Rattle.field.specs.Stage.{fieldFault}
+use Rattle.walk.specs.Walk.{LegalFrom}
 use Rattle.fields.specs.declared.Checked.{Checked}
 
 -- document 01's number and place for each case
@@ -27,3 +30,10 @@ faultIn file s (CutShort at) = refusedAt 3 file at
 
 abbrev pub checkedOf : ℕ → List ℕ → Numbered
 checkedOf file s = asked (faultIn file s) file s
+
+-- what the pass over a file's records asks: s is legal, and n is how many fields a record of this file has
+pub record Ready (file n : ℕ) (s : List ℕ) : Type 0 where
+  pub file-is : isFile file ≡ true
+  pub fields : n ≡ fieldsOf file
+  pub few : n ≤ 13
+  pub legal : LegalFrom n s 0

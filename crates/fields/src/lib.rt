@@ -1,13 +1,18 @@
 // The first field that isn't of its kind, and the first record that breaks a rule of its own: document 01's batch order, "then 5 and 6".
 // One pass over a file's records, each cut once; nothing is copied.
 ghost use mathlib.Core.Path.{_≡_};
-ghost use Prim.Native.Nat.{_≤_};
-ghost use lib.ListN.{length};
 ghost use Rattle.walk.specs.Walk.{Parted, cutRecord};
-ghost use Rattle.field.specs.Stage.{firstUnkind};
+ghost use Rattle.file.specs.Records.{recordsIn};
+ghost use Rattle.field.specs.Stage.{firstUnkind, fieldFault};
+ghost use Rattle.fields.specs.Check.{Ready, numberedChecked, checkedOf};
 use field::admits_text;
 use field::kind_of;
+use file::Counted;
 use file::Refusal;
+use file::classes;
+use file::fields_of;
+use rules::meets_rules;
+use walk::cut;
 use walk::part;
 
 // What the check of one file comes to.
@@ -37,4 +42,43 @@ fn first_unkind(file: u64, s: &[u8], places: &[usize; 14], n: usize) -> u64
         i += 1;
     }
     0
+}
+
+// The first fault of a legal file whose records have n fields.
+fn first_fault(file: u64, s: &[u8], n: usize) -> Checked
+    requires { ⌜ Ready file n (now s) ⌝ }
+    ensures { λ r. ⌜ numberedChecked r ≡ fieldFault file (recordsIn n (now (s .entry))) ⌝ }
+{
+    let class = classes();
+    let mut places: [usize; 14] = [0; 14];
+    let mut at = 0;
+    let mut k: u64 = 1;
+    while at < s.len() {
+        let next = cut(s, at, n, &class, &mut places);
+        let f = first_unkind(file, s, &places, n);
+        if f != 0 {
+            return Checked::Unkind(file, k, f);
+        }
+        if !meets_rules(file, s, &places) {
+            return Checked::Broken(file, k);
+        }
+        k += 1;
+        at = next;
+    }
+    Checked::Sound
+}
+
+// The first fault inside one file, read by itself: its own refusal, or its first 5 or 6.
+pub fn check_fields(file: u64, s: &[u8]) -> Checked
+    ensures { λ r. ⌜ numberedChecked r ≡ checkedOf file (now (s .entry)) ⌝ }
+{
+    match reader::records(file, s) {
+        Counted::Refused(why) => Checked::Refused(why),
+        Counted::Records(_) => {
+            if file == 1 {
+                return Checked::Sound;
+            }
+            first_fault(file, s, fields_of(file))
+        }
+    }
 }

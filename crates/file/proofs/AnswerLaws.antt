@@ -1,5 +1,5 @@
 -- Laws of the reader's answers: which refusal comes first, what an answer says of the reading, and that `numbered` tells all cases apart.
-use mathlib.Core.Path.{_≡_, refl, ap, _∙_}
+use mathlib.Core.Path.{_≡_, refl, ap, _∙_, sym}
 use mathlib.Core.Bool.{Bool, true, false}
 use mathlib.Core.List.{List, [], _∷_}
 use Prim.Native.Nat.{ℕ, _≤_, _<_}
@@ -98,14 +98,20 @@ asked-whole file s k e =
     go f l (Unfit at) r e = absurd (let z = same-values e .0 in omega arith)
     go f l (CutShort at) r e = absurd (let z = same-values e .0 in omega arith)
 
-pub asked-refused : (file : ℕ) (s : List ℕ) (r f : ℕ) (why : Refusal) → numbered why ≡ asked (counted file) file s → numbered why ≡ asked (located file s r f) file s
-unfolding asked counted located
-asked-refused file s r f why e =
+-- a refusal is the file's own, whatever is asked of it, where what is asked keeps 2 and 3
+pub asked-own : (file : ℕ) (s : List ℕ) (answer : Outcome → Numbered) → ((at : ℕ) → answer (Unfit at) ≡ refusedAt 2 file at) → ((at : ℕ) → answer (CutShort at) ≡ refusedAt 3 file at)
+    → (why : Refusal) → numbered why ≡ asked (counted file) file s → numbered why ≡ asked answer file s
+unfolding asked counted
+asked-own file s answer p q why e =
     either (isFile file)
     (λ i. either (leb (length s) longest) (λ l. rw (i, l) (go (reading (fieldsOf file) s) (rw (i, l) at e))) (λ l. rw (i, l) (rw (i, l) at e)))
     (λ i. rw i (rw i at e))
   where
-    go : (o : Outcome) → numbered why ≡ counted file o → numbered why ≡ located file s r f o
+    go : (o : Outcome) → numbered why ≡ counted file o → numbered why ≡ answer o
     go (Whole k) e = absurd (number-some why (same-values e .0))
-    go (Unfit at) e = e
-    go (CutShort at) e = e
+    go (Unfit at) e = e ∙ sym (p at)
+    go (CutShort at) e = e ∙ sym (q at)
+
+pub asked-refused : (file : ℕ) (s : List ℕ) (r f : ℕ) (why : Refusal) → numbered why ≡ asked (counted file) file s → numbered why ≡ asked (located file s r f) file s
+unfolding located
+asked-refused file s r f why e = asked-own file s (located file s r f) (λ at. refl) (λ at. refl) why e

@@ -19,7 +19,7 @@ use Rattle.file.specs.declared.Stretch.{Stretch}
 use Rattle.file.specs.declared.Written.{Written}
 
 -- the refusal of this number and place
-refusalOf : Numbered → Refusal
+pub refusalOf : Numbered → Refusal
 refusalOf a =
     pick (eqb (a .number) 1) (Refusal.TooLong (a .inFile))
     (pick (eqb (a .number) 2) (Refusal.Unfit (a .inFile) (a .atOffset))
@@ -28,7 +28,7 @@ refusalOf a =
     (pick (eqb (a .number) 21) Refusal.NotPermitted
     Refusal.NoRoom))))
 
-refusal-told : (r : Refusal) → refusalOf (numbered r) ≡ r
+pub refusal-told : (r : Refusal) → refusalOf (numbered r) ≡ r
 unfolding numbered refusalOf
 refusal-told (Refusal.TooLong file) = refl
 refusal-told (Refusal.Unfit file at) = refl
@@ -38,7 +38,7 @@ refusal-told Refusal.NotPermitted = refl
 refusal-told Refusal.NoRoom = refl
 
 -- no refusal has the number of an answer
-no-answer : (r : Refusal) → eqb (numbered r .number) 0 ≡ false
+pub no-answer : (r : Refusal) → eqb (numbered r .number) 0 ≡ false
 unfolding numbered
 no-answer (Refusal.TooLong file) = refl
 no-answer (Refusal.Unfit file at) = refl

@@ -2,3 +2,5 @@ pub mod Days
 pub mod DaysSettled
 pub mod Files
 pub mod FilesSettled
+pub mod Checks
+pub mod ChecksSettled

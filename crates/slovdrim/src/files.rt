@@ -12,10 +12,10 @@ ghost use Rattle.file.specs.Writing.{writtenOf, bufferOf};
 ghost use Rattle.slovdrim.specs.Files.{refusedPlace, recordsResult, stretchResult, writeResult};
 
 // Which of document 01's refusals, and where.
-struct Place {
-    number: u64,
-    file: u64,
-    offset: u64,
+pub struct Place {
+    pub number: u64,
+    pub file: u64,
+    pub offset: u64,
 }
 
 #[repr(C)]
@@ -46,7 +46,7 @@ pub struct WriteResult {
 }
 
 // inner: document 01's number and place of a refusal.
-fn place_of(why: Refusal) -> Place
+pub fn place_of(why: Refusal) -> Place
     ensures { λ r. ⌜ r ≡ refusedPlace (numbered why) ⌝ }
 {
     match why {

@@ -1,3 +1,4 @@
 // The C interface of the library: every exported function, thin.
+mod checks; // checks.rt: the fields and rules of a file
 mod days; // days.rt: dates, day numbers, weekdays, weeks, holidays, day signs
 mod files; // files.rt: the records of a file, the stretch of a field, the writer

@@ -54,13 +54,13 @@ first-unkind-spec =
     (tie.spec
     Inv-loop
     μ-loop
-    (λ c. (omega arith, refl)) -- loop-holds
-    (λ c κs. let i = c .before .loop .i in c .before .before .before .pre i (omega arith)) -- part-requires
-    (λ c. omega arith) -- add-f
-    (λ c κs. search needs) -- kind-of-requires
-    (λ c κs. search needs) -- admits-text-requires
+    (λ c. (omega arith, refl))  -- loop-holds
+    (λ c κs. let i = c .before .loop .i in c .before .before .before .pre i (omega arith))  -- part-requires
+    (λ c. omega arith)  -- add-f
+    (λ c κs. search needs)  -- kind-of-requires
+    (λ c κs. search needs)  -- admits-text-requires
     returns
-    (λ c. omega arith) -- add-i
-    (λ c. omega arith) -- loop-less
+    (λ c. omega arith)  -- add-i
+    (λ c. omega arith)  -- loop-less
     loop-again
     returns-2)

@@ -12,7 +12,7 @@ use Rattle.laws.specs.Tests.{both, oneOf, never, both-false}
 use Rattle.calendar.specs.Dates.{within}
 use Rattle.file.specs.Format.{Text, Fields}
 use Rattle.field.specs.Values.{isEmpty, isByte, isDigits, value, isDateText, isTime}
-use Rattle.field.specs.Rules.{isCZ, isTimeMark, timesRule, anyGiven}
+use Rattle.field.specs.Rules.{isCZ, inOrder, closes, isTimeMark, timesRule, anyGiven}
 use Rattle.rules.specs.Texts.{DateOrNone}
 
 -- what a call that was tried with `!` says of its definition
@@ -40,6 +40,11 @@ cz-two (a ∷ b ∷ c ∷ t) h = absurd (omega arith)
 -- what is given where a date may stand is a date
 pub is-given : (t : Text) → DateOrNone t → (length t ≡ 0 → ⊥) → isDateText t ≡ true
 is-given t d h = rw (ne-eqb (length t) 0 h) at d
+
+-- from a date that is given, what closes is what is in order
+pub order-given : (from to : Text) → (length from ≡ 0 → ⊥) → closes from to ≡ inOrder from to
+unfolding closes inOrder
+order-given from to h = rw (ne-eqb (length from) 0 h)
 
 -- a mark of two digits
 module _ (t : Text) where

@@ -45,20 +45,6 @@ pub fn name_given(kind: &[u8], name: &[u8]) -> bool
     true
 }
 
-// inner: the from-date isn't after the to-date, where both are given
-pub fn in_order(from: &[u8], to: &[u8]) -> bool
-    requires { ⌜ DateOrNone (now from) × DateOrNone (now to) ⌝ }
-    ensures { λ r. ⌜ r ≡ inOrder (now (from .entry)) (now (to .entry)) ⌝ }
-{
-    if from.len() == 0 {
-        return true;
-    }
-    if to.len() == 0 {
-        return true;
-    }
-    day_of(from) <= day_of(to)
-}
-
 // inner: a to-date needs a from-date and isn't before it
 pub fn closes_in_order(from: &[u8], to: &[u8]) -> bool
     requires { ⌜ DateOrNone (now from) × DateOrNone (now to) ⌝ }
@@ -71,6 +57,17 @@ pub fn closes_in_order(from: &[u8], to: &[u8]) -> bool
         return false;
     }
     day_of(from) <= day_of(to)
+}
+
+// inner: the from-date isn't after the to-date, where both are given
+pub fn in_order(from: &[u8], to: &[u8]) -> bool
+    requires { ⌜ DateOrNone (now from) × DateOrNone (now to) ⌝ }
+    ensures { λ r. ⌜ r ≡ inOrder (now (from .entry)) (now (to .entry)) ⌝ }
+{
+    if from.len() == 0 {
+        return true;
+    }
+    closes_in_order(from, to)
 }
 
 // Two digits 10-79.

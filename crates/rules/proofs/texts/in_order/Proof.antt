@@ -1,7 +1,9 @@
--- `rules::texts::in_order` meets its contract: with one of them empty nothing is asked, and what is given is a date.
+-- `rules::texts::in_order` meets its contract: with a from-date, what is asked is what a to-date that closes it asks.
+use mathlib.Core.Path.{_∙_}
+use borrow.Author.Needs.{needs}
 use Rattle.laws.specs.Tests.{tests}
 use Rattle.field.specs.Rules.{inOrder}
-use Rattle.rules.proofs.RuleLaws.{is-given}
+use Rattle.rules.proofs.RuleLaws.{order-given}
 use Rattle.rules.proofs.texts.in_order.Statement.{statement}
 use Rattle.rules.proofs.texts.in_order.Tie as tie
 
@@ -10,25 +12,12 @@ unfolding inOrder
 returns c = search tests
 
 returns-2 : tie.Need-returns-2
-unfolding inOrder
-returns-2 c = search tests
-
-day-of-requires : tie.Need-day-of-requires
-day-of-requires c κs = is-given _ (c .before .before .before .before .pre .0) (c .before .if1 .left)
-
-day-of-requires-2 : tie.Need-day-of-requires-2
-day-of-requires-2 c κs = is-given _ (c .before .before .before .before .before .pre .1) (c .before .if2 .left)
-
-returns-3 : tie.Need-returns-3
-unfolding inOrder
-returns-3 c = rw (c .before .day-of .ensures, c .day-of2 .ensures) (search tests)
+returns-2 c = c .closes-in-order .ensures ∙ order-given _ _ (c .before .if1 .left)
 
 pub in-order-spec : {M : Type 1} → statement M
 in-order-spec =
     tie.close
     (tie.spec
     returns
-    returns-2
-    day-of-requires
-    day-of-requires-2
-    returns-3)
+    (λ c κs. c .before .before .before .pre)  -- closes-in-order-requires
+    returns-2)

@@ -1,0 +1,232 @@
+// Document 01's rules inside one record, asked of texts. All of it is inner: what each function means is its definition in the
+// crate field, specs/Rules.antt.
+use field::day_of;
+use field::is_byte;
+use field::is_digits;
+use field::is_one_of;
+use field::is_time;
+use field::value_of;
+ghost use mathlib.Core.Path.{_≡_};
+ghost use mathlib.Core.List.{[], _∷_};
+ghost use Rattle.laws.specs.Tests.{pick, both, oneOf};
+ghost use Rattle.field.specs.Values.{isEmpty, given, isByte, among, isTime};
+ghost use Rattle.field.specs.Rules.{asks, alike, isCZ, inOrder, closes, isTimeMark, isNoteMark, datesRule, timesRule, passesBy};
+ghost use Rattle.rules.specs.Texts.{DateOrNone};
+
+fn is_cz(t: &[u8]) -> bool
+    ensures { λ r. ⌜ r ≡ isCZ (now (t .entry)) ⌝ }
+{
+    if t.len() != 2 {
+        return false;
+    }
+    if t[0] != b'C' {
+        return false;
+    }
+    t[1] == b'Z'
+}
+
+// inner: the district is given if the state is CZ
+pub fn district_given(district: &[u8], country: &[u8]) -> bool
+    ensures { λ r. ⌜ r ≡ asks (isCZ (now (country .entry))) (given (now (district .entry))) ⌝ }
+{
+    if is_cz(country) {
+        return district.len() != 0;
+    }
+    true
+}
+
+// inner: the person's name is given if the firm's kind is 2
+pub fn name_given(kind: &[u8], name: &[u8]) -> bool
+    ensures { λ r. ⌜ r ≡ asks (isByte 50 (now (kind .entry))) (given (now (name .entry))) ⌝ }
+{
+    if is_byte(kind, b'2') {
+        return name.len() != 0;
+    }
+    true
+}
+
+// inner: a to-date needs a from-date and isn't before it
+pub fn closes_in_order(from: &[u8], to: &[u8]) -> bool
+    requires { ⌜ DateOrNone (now from) × DateOrNone (now to) ⌝ }
+    ensures { λ r. ⌜ r ≡ closes (now (from .entry)) (now (to .entry)) ⌝ }
+{
+    if to.len() == 0 {
+        return true;
+    }
+    if from.len() == 0 {
+        return false;
+    }
+    day_of(from) <= day_of(to)
+}
+
+// inner: the from-date isn't after the to-date, where both are given
+pub fn in_order(from: &[u8], to: &[u8]) -> bool
+    requires { ⌜ DateOrNone (now from) × DateOrNone (now to) ⌝ }
+    ensures { λ r. ⌜ r ≡ inOrder (now (from .entry)) (now (to .entry)) ⌝ }
+{
+    if from.len() == 0 {
+        return true;
+    }
+    closes_in_order(from, to)
+}
+
+// Two digits 10-79.
+fn is_time_mark(t: &[u8]) -> bool
+    ensures { λ r. ⌜ r ≡ isTimeMark (now (t .entry)) ⌝ }
+{
+    if !is_digits(t, 2, 2) {
+        return false;
+    }
+    let v = value_of(t);
+    if v < 10 {
+        return false;
+    }
+    v <= 79
+}
+
+// inner: with a type the mark is two digits, without one it is a note's
+pub fn mark_fits(kind: &[u8], mark: &[u8]) -> bool
+    ensures { λ r. ⌜ r ≡ pick (given (now (kind .entry))) (isTimeMark (now (mark .entry))) (isNoteMark (now (mark .entry))) ⌝ }
+{
+    if kind.len() == 0 {
+        return is_one_of(mark, b"OmM[p");
+    }
+    is_time_mark(mark)
+}
+
+// Types 1 and 4 need a from-date.
+fn opens(kind: &[u8], from: &[u8]) -> bool
+    ensures { λ r. ⌜ r ≡ asks (among (49 ∷ 52 ∷ []) (now (kind .entry))) (given (now (from .entry))) ⌝ }
+{
+    if is_one_of(kind, b"14") {
+        return from.len() != 0;
+    }
+    true
+}
+
+// Types 2 and 3 need it and no to-date.
+fn is_one_day(kind: &[u8], from: &[u8], to: &[u8]) -> bool
+    ensures { λ r. ⌜ r ≡ asks (among (50 ∷ 51 ∷ []) (now (kind .entry))) (both (given (now (from .entry))) (isEmpty (now (to .entry)))) ⌝ }
+{
+    if is_one_of(kind, b"23") {
+        if from.len() == 0 {
+            return false;
+        }
+        return to.len() == 0;
+    }
+    true
+}
+
+// Types 5 and 6 have neither.
+fn has_no_dates(kind: &[u8], from: &[u8], to: &[u8]) -> bool
+    ensures { λ r. ⌜ r ≡ asks (among (53 ∷ 54 ∷ []) (now (kind .entry))) (both (isEmpty (now (from .entry))) (isEmpty (now (to .entry)))) ⌝ }
+{
+    if is_one_of(kind, b"56") {
+        if from.len() != 0 {
+            return false;
+        }
+        return to.len() == 0;
+    }
+    true
+}
+
+// Types 7 and 8 have both.
+fn has_both_dates(kind: &[u8], from: &[u8], to: &[u8]) -> bool
+    ensures { λ r. ⌜ r ≡ asks (among (55 ∷ 56 ∷ []) (now (kind .entry))) (both (given (now (from .entry))) (given (now (to .entry)))) ⌝ }
+{
+    if is_one_of(kind, b"78") {
+        if from.len() == 0 {
+            return false;
+        }
+        return to.len() != 0;
+    }
+    true
+}
+
+// inner: the dates that each type of a time code asks for
+pub fn dates_fit(kind: &[u8], from: &[u8], to: &[u8]) -> bool
+    ensures { λ r. ⌜ r ≡ datesRule (now (kind .entry)) (now (from .entry)) (now (to .entry)) ⌝ }
+{
+    if !opens(kind, from) {
+        return false;
+    }
+    if !is_one_day(kind, from, to) {
+        return false;
+    }
+    if !has_no_dates(kind, from, to) {
+        return false;
+    }
+    has_both_dates(kind, from, to)
+}
+
+fn is_none_or_time(t: &[u8]) -> bool
+    ensures { λ r. ⌜ r ≡ oneOf (isEmpty (now (t .entry))) (isTime (now (t .entry))) ⌝ }
+{
+    if t.len() == 0 {
+        return true;
+    }
+    is_time(t)
+}
+
+// Departure this sign, with arrival empty or the same.
+fn is_signed(a: &[u8], d: &[u8], sign: u8) -> bool
+    ensures { λ r. ⌜ r ≡ both (isByte sign (now (d .entry))) (oneOf (isEmpty (now (a .entry))) (isByte sign (now (a .entry)))) ⌝ }
+{
+    if !is_byte(d, sign) {
+        return false;
+    }
+    if a.len() == 0 {
+        return true;
+    }
+    is_byte(a, sign)
+}
+
+// Each of the two is empty or a time.
+fn is_timed(a: &[u8], d: &[u8]) -> bool
+    ensures { λ r. ⌜ r ≡ both (oneOf (isEmpty (now (a .entry))) (isTime (now (a .entry)))) (oneOf (isEmpty (now (d .entry))) (isTime (now (d .entry)))) ⌝ }
+{
+    if !is_none_or_time(a) {
+        return false;
+    }
+    is_none_or_time(d)
+}
+
+// inner: how arrival and departure may go together
+pub fn times_fit(a: &[u8], d: &[u8]) -> bool
+    ensures { λ r. ⌜ r ≡ timesRule (now (a .entry)) (now (d .entry)) ⌝ }
+{
+    if is_timed(a, d) {
+        return true;
+    }
+    if is_signed(a, d, b'|') {
+        return true;
+    }
+    is_signed(a, d, b'<')
+}
+
+// There is a time or `|`.
+fn passes_by(a: &[u8], d: &[u8]) -> bool
+    ensures { λ r. ⌜ r ≡ passesBy (now (a .entry)) (now (d .entry)) ⌝ }
+{
+    if is_time(a) {
+        return true;
+    }
+    if is_time(d) {
+        return true;
+    }
+    if is_byte(a, b'|') {
+        return true;
+    }
+    is_byte(d, b'|')
+}
+
+// inner: kilometres are given exactly when there is a time or `|`
+pub fn kilometres_fit(km: &[u8], a: &[u8], d: &[u8]) -> bool
+    ensures { λ r. ⌜ r ≡ alike (given (now (km .entry))) (passesBy (now (a .entry)) (now (d .entry))) ⌝ }
+{
+    let passes = passes_by(a, d);
+    if km.len() == 0 {
+        return !passes;
+    }
+    passes
+}

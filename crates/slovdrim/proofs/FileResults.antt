@@ -4,6 +4,8 @@ use Rattle.laws.specs.Numbered.{Numbered}
 use Rattle.file.specs.Answers.{numbered}
 use Rattle.file.specs.declared.Refusal.{Refusal}
 use Rattle.slovdrim.specs.Files.{refusedPlace, recordsResult, stretchResult, writeResult}
+use Rattle.slovdrim.specs.Checks.{fieldsResult}
+use Rattle.slovdrim.specs.declared.checks.FieldsResult.{FieldsResult}
 use Rattle.slovdrim.specs.declared.files.Place.{Place}
 use Rattle.slovdrim.specs.declared.files.RecordsResult.{RecordsResult}
 use Rattle.slovdrim.specs.declared.files.StretchResult.{StretchResult}
@@ -44,3 +46,15 @@ refused-write (Refusal.CutShort file at) = refl
 refused-write Refusal.NoSuch = refl
 refused-write Refusal.NotPermitted = refl
 refused-write Refusal.NoRoom = refl
+
+abbrev pub fieldsAt : Place → FieldsResult
+fieldsAt p = record { number = p .number; file = p .file; «record» = 0; field = 0; offset = p .offset }
+
+pub refused-fields : (why : Refusal) → fieldsAt (refusedPlace (numbered why)) ≡ fieldsResult (numbered why)
+unfolding numbered refusedPlace fieldsResult
+refused-fields (Refusal.TooLong file) = refl
+refused-fields (Refusal.Unfit file at) = refl
+refused-fields (Refusal.CutShort file at) = refl
+refused-fields Refusal.NoSuch = refl
+refused-fields Refusal.NotPermitted = refl
+refused-fields Refusal.NoRoom = refl

@@ -60,11 +60,11 @@ pub check-fields-spec : {M : Type 1} → statement M
 check-fields-spec =
     tie.close
     (tie.spec
-    (λ c κs. search needs) -- records-requires
-    (λ c. search needs) -- enum-known-why
-    (λ c. search needs) -- enum-told
+    (λ c κs. search needs)  -- records-requires
+    (λ c. search needs)  -- enum-known-why
+    (λ c. search needs)  -- enum-told
     returns
-    (λ c κs. search needs) -- fields-of-requires
+    (λ c κs. search needs)  -- fields-of-requires
     first-fault-requires
     returns-2
     returns-3)

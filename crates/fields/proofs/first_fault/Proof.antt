@@ -86,18 +86,18 @@ first-fault-spec =
     (tie.spec
     Inv-loop
     μ-loop
-    (λ c κs. search needs) -- classes-requires
-    (λ c. (omega arith, omega arith, c .before .before .pre .legal, refl)) -- loop-holds
+    (λ c κs. search needs)  -- classes-requires
+    (λ c. (omega arith, omega arith, c .before .before .pre .legal, refl))  -- loop-holds
     (λ c κs.
     let l = c .before .before .before .loop in
-    (record { legal = l .inv .2; more = c .before .before .loop-test .taken; room = c .before .before .before .before .before .before .pre .few }, c .before .before .before .before .classes .ensures)) -- cut-requires
-    (λ c κs. c .before .cut .ensures .parted) -- first-unkind-requires
+    (record { legal = l .inv .2; more = c .before .before .loop-test .taken; room = c .before .before .before .before .before .before .pre .few }, c .before .before .before .before .classes .ensures))  -- cut-requires
+    (λ c κs. c .before .cut .ensures .parted)  -- first-unkind-requires
     returns
     meets-rules-requires
     returns-2
     (λ c.
     let q = c .before .before .before .before .before .before in
-    omega (arith, q .before .before .before .before .loop .inv .0, q .before .before .before .before .loop .inv .1, q .cut .ensures .far, q .cut .ensures .near)) -- add-k
-    (λ c. let x = c .before .before .before .before .before .before .cut .ensures in omega (arith, x .far, x .near)) -- loop-less
+    omega (arith, q .before .before .before .before .loop .inv .0, q .before .before .before .before .loop .inv .1, q .cut .ensures .far, q .cut .ensures .near))  -- add-k
+    (λ c. let x = c .before .before .before .before .before .before .cut .ensures in omega (arith, x .far, x .near))  -- loop-less
     loop-again
     returns-3)

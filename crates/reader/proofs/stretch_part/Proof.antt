@@ -1,10 +1,10 @@
 -- `reader::stretch_part` meets its contract: the part is the stretch, which is inside the file.
 use mathlib.Core.Path.{_≡_, sym, ap, _∙_}
 use mathlib.Core.List.{[], _∷_}
-use Prim.Native.Nat.{_+_, _-_, _≤_}
+use Prim.Native.Nat.{ℕ, _+_, _-_, _≤_}
 use native.Mathlib.Omega.{arith}
 use borrow.Author.Needs.{needs}
-use lib.ListN.{length}
+use lib.ListN.{length, take, drop}
 use denote.Ref.{now}
 use Rattle.laws.specs.Numbered.{Numbered}
 use Rattle.file.specs.Answers.{numberedStretch, stretchOf, stretchIn}

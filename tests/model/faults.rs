@@ -44,9 +44,9 @@ const PAIRS: [&str; 9] = [
     "6 before a later record's 6",
     "5 before the same record's 6",
     "5 before the same record's later 5",
-    "6 before a file ending inside a record: 3",
-    "5 before a byte that isn't legal: 2",
-    "5 before a file ending inside a record: 3",
+    "3 before an earlier record's 6",
+    "2 before an earlier record's 5",
+    "3 before an earlier record's 5",
 ];
 
 /// Dates in rising order. Compared as they are written, they would stand otherwise.
@@ -744,7 +744,9 @@ fn carrier_rules(link: &mut Link, m: &mut Maker) {
                     let some = codes != 0 || kind != b"" || from != b"";
                     let mut sets: Vec<(usize, &[u8])> = (0..6).map(|i| (4 + i, code(i))).collect();
                     sets.extend([(10, kind), (11, reserve), (12, from), (13, to)]);
-                    ask_rule(link, m, 11, &sets, some && dated);
+                    for _ in 0..if some { 1 } else { 20 } {
+                        ask_rule(link, m, 11, &sets, some && dated);
+                    }
                 }
             }
         }
@@ -848,24 +850,23 @@ pub fn bytes_before_fields(link: &mut Link) {
         let n = FIELDS[file as usize - 1];
         let count = 1 + m.r.below(4);
         let mut records = m.legals(file, count);
-        let mut rule = false;
-        if file > 1 {
-            rule = !breaks(file).is_empty() && m.r.one_in(2);
-            if rule {
-                break_rule(&mut m, file, &mut records[0]);
-            } else {
-                let field = 1 + m.r.below(n);
-                break_field(&mut m, file, &mut records[0], field);
-            }
-        }
+        let ways = if file == 1 {
+            (Vec::new(), Vec::new())
+        } else if !breaks(file).is_empty() && m.r.one_in(2) {
+            break_rule(&mut m, file, &mut records[0]);
+            (vec![Aim::Way(PAIRS[6])], Vec::new())
+        } else {
+            let field = 1 + m.r.below(n);
+            break_field(&mut m, file, &mut records[0], field);
+            (vec![Aim::Way(PAIRS[8])], vec![Aim::Way(PAIRS[7])])
+        };
         let bytes = writing(&records);
         let end = bytes.len() - 1 - m.r.below(3);
-        let way = Aim::Way(if rule { PAIRS[6] } else { PAIRS[8] });
-        ask(link, file, bytes[..end].to_vec(), vec![way], [ENDS_INSIDE, file, 0, 0, end as u64]);
+        ask(link, file, bytes[..end].to_vec(), ways.0, [ENDS_INSIDE, file, 0, 0, end as u64]);
         let mut other = bytes.clone();
         let last = bytes.len() - 1;
         other[last] = b'x';
-        ask(link, file, other, if rule { Vec::new() } else { vec![Aim::Way(PAIRS[7])] }, [NOT_LEGAL, file, 0, 0, last as u64]);
+        ask(link, file, other, ways.1, [NOT_LEGAL, file, 0, 0, last as u64]);
     }
     // Damage anywhere, and texts of all sorts in place of one: here the model alone says what comes.
     for i in 0..20_000 {
@@ -891,18 +892,16 @@ pub fn bytes_before_fields(link: &mut Link) {
 
 /// Udaje of exactly so many bytes, all its fields of their kinds.
 fn udaje_of_length(length: usize) -> Vec<u8> {
-    let record = |l: usize| -> Vec<u8> {
-        let around = writing(&[vec![b"790123".to_vec(), b"1".to_vec(), Vec::new()]]).len();
-        writing(&[vec![b"790123".to_vec(), b"1".to_vec(), vec![b'\xec'; l - around]]])
-    };
-    let full = 254 + record(30).len() - (30 - writing(&[vec![b"790123".to_vec(), b"1".to_vec(), Vec::new()]]).len());
+    let record = |text: usize| writing(&[vec![b"790123".to_vec(), b"1".to_vec(), vec![0xec; text]]]);
+    let around = record(0).len();
+    let full = record(254);
     let mut bytes = Vec::with_capacity(length);
-    while length - bytes.len() > 2 * full {
-        bytes.extend(record(full));
+    while length - bytes.len() > 2 * full.len() {
+        bytes.extend(&full);
     }
     let half = (length - bytes.len()) / 2;
-    bytes.extend(record(half));
-    bytes.extend(record(length - bytes.len()));
+    bytes.extend(record(half - around));
+    bytes.extend(record(length - bytes.len() - around));
     assert_eq!(bytes.len(), length);
     bytes
 }
@@ -998,28 +997,34 @@ pub fn samples(link: &mut Link) {
     }
 }
 
-/// Every number that each file must have met.
-pub fn met() -> Vec<(&'static str, u64, &'static str)> {
-    let call = "slovdrim_fields";
-    let mut all = vec![(call, NO_SUCH, "")];
-    for file in 1..=13 {
-        let mut numbers = vec![0, TOO_LONG, NOT_LEGAL, ENDS_INSIDE];
-        if file > 1 {
-            numbers.push(NOT_OF_ITS_KIND);
-        }
-        if !rule_names(file).is_empty() {
-            numbers.push(RULE_BROKEN);
-        }
-        all.extend(numbers.into_iter().map(|n| (call, n, name_of(file))));
+/// Every number that a file must have met.
+fn numbers(file: u64) -> Vec<u64> {
+    let mut all = vec![0, TOO_LONG, NOT_LEGAL, ENDS_INSIDE];
+    if file > 1 {
+        all.push(NOT_OF_ITS_KIND);
+    }
+    if !rule_names(file).is_empty() {
+        all.push(RULE_BROKEN);
     }
     all
 }
 
-/// Prints how often each field and rule was met by its refusal and by none, and each way of damage; one that never was is a fault of the run.
+/// Prints how often each file met each number, each field and rule its refusal and none, and each way of damage its refusal; what was never met is a
+/// fault of the run, unless differences have kept it from being met.
 pub fn told(report: &mut Report) {
+    let tally = |number: u64, name: &'static str| report.tally.get(&("slovdrim_fields", number, name)).copied().unwrap_or(0);
     let count = |file: u64, number: u64, aim: Aim| report.aims.get(&(file, number, aim)).copied().unwrap_or(0);
     let over_all = |aim: Aim| report.aims.iter().filter(|((_, _, a), _)| *a == aim).map(|(_, n)| n).sum::<u64>();
     let mut never = Vec::new();
+    println!("  no such file: 20: {}", tally(NO_SUCH, ""));
+    if tally(NO_SUCH, "") == 0 {
+        never.push("20".to_string());
+    }
+    for file in 1..=13 {
+        let line: Vec<String> = numbers(file).iter().map(|&n| format!("{}: {}", n, tally(n, name_of(file)))).collect();
+        println!("  {:<9} {}", name_of(file), line.join(", "));
+        never.extend(numbers(file).iter().filter(|&&n| tally(n, name_of(file)) == 0).map(|n| format!("{} {}", name_of(file), n)));
+    }
     for file in 2..=13 {
         let fields = FIELDS[file as usize - 1] as u64;
         for (number, what) in [(NOT_OF_ITS_KIND, "5 at field"), (0, "0 with an edge at field")] {

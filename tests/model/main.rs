@@ -148,7 +148,7 @@ fn compare_fields(command: &[String]) -> Report {
 }
 
 /// Prints how often each answer was met; one that never was is a fault of the run, unless differences have kept it from being met.
-fn told(report: &mut Report, met: &[(&'static str, u64, &'static str)], weeks: bool) {
+fn told(report: &mut Report, met: &'static [(&'static str, u64, &'static str)], weeks: bool) {
     for key in met {
         report.tally.entry(*key).or_insert(0);
     }
@@ -194,7 +194,6 @@ fn main() {
         }
         ["compare", "fields", _, ..] => {
             let mut report = compare_fields(&arguments[2..]);
-            told(&mut report, &faults::met(), false);
             faults::told(&mut report);
             report
         }

@@ -657,7 +657,9 @@ pub fn every_rule(link: &mut Link) {
             ask_rule(link, m, 10, &[(4, b"10"), (5, b"1"), (6, from), (7, to)], rising);
             ask_rule(link, m, 10, &[(4, b"79"), (5, b"8"), (6, from), (7, to)], rising);
             ask_rule(link, m, 10, &[(4, b"O"), (5, b""), (6, from), (7, to)], rising);
+            ask_rule(link, m, 10, &[(4, &b"OmM[p"[i % 5..i % 5 + 1]), (5, b""), (6, b""), (7, to)], false);
             ask_rule(link, m, 11, &[(4, b"1"), (12, from), (13, to)], rising);
+            ask_rule(link, m, 11, &[(4, b"1"), (12, b""), (13, to)], false);
             ask_rule(link, m, 11, &[(4, b""), (5, b""), (6, b""), (7, b""), (8, b""), (9, b""), (10, b""), (12, from), (13, to)], rising);
         }
     }
@@ -750,6 +752,33 @@ fn carrier_rules(link: &mut Link, m: &mut Maker) {
                 }
             }
         }
+    }
+}
+
+/// Fields all of their kinds, with no thought for the rules: the model alone says which stand.
+pub fn rules_as_they_fall(link: &mut Link) {
+    let mut m = Maker::new(20);
+    for i in 0..24_000 {
+        let file = [2, 4, 5, 8, 10, 11][i % 6];
+        let count = 1 + m.r.below(3);
+        let mut records = m.legals(file, count);
+        let at = m.r.below(count);
+        for (k, field) in fields_of_file(file).into_iter().enumerate() {
+            records[at][k] = match (file, k + 1) {
+                (2, 6) if m.r.one_in(2) => b"CZ".to_vec(),
+                (8, 9) | (8, 10) if m.r.one_in(2) => vec![m.r.pick(b"|<")],
+                (10, 4) => match m.r.below(4) {
+                    0 => m.given(field),
+                    1 => vec![m.r.pick(b"OmM[p")],
+                    _ => (8 + m.r.below(74)).to_string().into_bytes(),
+                },
+                (10, 5) if m.r.one_in(2) => m.given(field),
+                (11, 4..=10) if !m.r.one_in(8) => Vec::new(),
+                _ => m.any(field),
+            };
+        }
+        let aims = if count == 1 { rule_aims(file, &records[0]) } else { Vec::new() };
+        ask_model(link, file, writing(&records), aims);
     }
 }
 

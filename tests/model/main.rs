@@ -141,6 +141,7 @@ fn compare_fields(command: &[String]) -> Report {
     step(&mut report, command, "every byte of every field", faults::every_byte);
     step(&mut report, command, "dates and times", faults::dates_and_times);
     step(&mut report, command, "every rule", faults::every_rule);
+    step(&mut report, command, "rules as they fall", faults::rules_as_they_fall);
     step(&mut report, command, "two faults", faults::two_faults);
     step(&mut report, command, "bytes before fields", faults::bytes_before_fields);
     step(&mut report, command, "long files", faults::long_files);

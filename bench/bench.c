@@ -136,7 +136,8 @@ static void try_fields(uint8_t *bytes, size_t length)
     last[1] = was;
     if (a.number != 0 || b.number != SLOVDRIM_NOT_OF_ITS_KIND || b.record != records || b.field != 1) {
         fprintf(stderr, "bench: slovdrim_fields answers %llu for the file, and %llu at record %llu, field %llu for a fault in the last of %llu\n",
-                (unsigned long long)a.number, (unsigned long long)b.number, (unsigned long long)b.record, (unsigned long long)b.field, (unsigned long long)records);
+                (unsigned long long)a.number, (unsigned long long)b.number, (unsigned long long)b.record, (unsigned long long)b.field,
+                (unsigned long long)records);
         exit(1);
     }
 }

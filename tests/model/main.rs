@@ -7,6 +7,7 @@
 //! It was written from document 01 and the tables of document 000 alone. It needs nothing but Rust's standard library.
 
 mod calendar;
+mod damage;
 mod days;
 mod faults;
 mod fields;
@@ -14,6 +15,8 @@ mod files;
 mod format;
 mod generator;
 mod link;
+mod maker;
+mod rules;
 mod sweep;
 
 use std::time::Instant;
@@ -140,8 +143,8 @@ fn compare_fields(command: &[String]) -> Report {
     step(&mut report, command, "every field at its edges and damaged", faults::every_field);
     step(&mut report, command, "every byte of every field", faults::every_byte);
     step(&mut report, command, "dates and times", faults::dates_and_times);
-    step(&mut report, command, "every rule", faults::every_rule);
-    step(&mut report, command, "rules as they fall", faults::rules_as_they_fall);
+    step(&mut report, command, "every rule", rules::every_rule);
+    step(&mut report, command, "rules as they fall", rules::rules_as_they_fall);
     step(&mut report, command, "two faults", faults::two_faults);
     step(&mut report, command, "bytes before fields", faults::bytes_before_fields);
     step(&mut report, command, "long files", faults::long_files);

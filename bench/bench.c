@@ -1,5 +1,5 @@
-/* Times slovdrim_records beside the C scanners, interleaved, over one file of 16 MB, and compares their answers.
-   bench SEED ROUNDS; prints the median speed of each and the proved one's part of each C scanner's. */
+/* Times slovdrim_records beside the C scanners, interleaved, over one file of 16 MB, and compares their answers; and slovdrim_fields beside slovdrim_records.
+   bench SEED ROUNDS; prints the median speed of each, the proved one's part of each C scanner's, and how many times the scan the fields take. */
 #define _GNU_SOURCE
 #ifdef BENCH_NATIVE
 #define SLOVDRIM_OTHER_MACHINE
@@ -106,6 +106,43 @@ static slovdrim_records_answer proved_scan(const uint8_t *bytes, size_t length)
 #endif
 }
 
+#ifdef BENCH_FIELDS
+#ifdef BENCH_NATIVE
+slovdrim_fields_answer *fill_fields(slovdrim_fields_answer *out, uint64_t file, const uint8_t *bytes, size_t length) __asm__("slovdrim_fields");
+#endif
+
+static slovdrim_fields_answer proved_fields(const uint8_t *bytes, size_t length)
+{
+#ifdef BENCH_NATIVE
+    slovdrim_fields_answer a;
+    fill_fields(&a, FILE_NUMBER, bytes, length);
+    return a;
+#else
+    return slovdrim_fields(FILE_NUMBER, bytes, length);
+#endif
+}
+
+/* The file stands, so that all of it is looked at; and a fault in its last record is found there. */
+static void try_fields(uint8_t *bytes, size_t length)
+{
+    uint64_t records = proved_scan(bytes, length).records;
+    uint8_t *last = bytes + length - 2, was;
+    slovdrim_fields_answer a = proved_fields(bytes, length), b;
+    while (last[-1] != '\n')
+        last--;
+    was = last[1];
+    last[1] = 'x';
+    b = proved_fields(bytes, length);
+    last[1] = was;
+    if (a.number != 0 || b.number != SLOVDRIM_NOT_OF_ITS_KIND || b.record != records || b.field != 1) {
+        fprintf(stderr, "bench: slovdrim_fields answers %llu for the file, and %llu at record %llu, field %llu for a fault in the last of %llu\n",
+                (unsigned long long)a.number, (unsigned long long)b.number, (unsigned long long)b.record, (unsigned long long)b.field,
+                (unsigned long long)records);
+        exit(1);
+    }
+}
+#endif
+
 static void compare(const char *what, const uint8_t *bytes, size_t length)
 {
     slovdrim_records_answer a = proved_scan(bytes, length);
@@ -119,6 +156,10 @@ static void compare(const char *what, const uint8_t *bytes, size_t length)
 int main(int argc, char **argv)
 {
     static double proved[MOST_ROUNDS], gcc[MOST_ROUNDS], clang[MOST_ROUNDS];
+#ifdef BENCH_FIELDS
+    static double fields[MOST_ROUNDS];
+    double f;
+#endif
     uint8_t *bytes = malloc(LENGTH + 4096);
     int round, rounds = argc > 2 ? atoi(argv[2]) : 15;
     size_t length, i;
@@ -136,6 +177,9 @@ int main(int argc, char **argv)
         bytes[at] = was;
         compare("a part of the file", bytes, below(length));
     }
+#ifdef BENCH_FIELDS
+    try_fields(bytes, length);
+#endif
     for (round = 0; round < rounds; round++) {
         volatile uint64_t sink;
         t = now();
@@ -147,6 +191,11 @@ int main(int argc, char **argv)
         t = now();
         sink = scan_clang(FIELDS, bytes, length).records;
         clang[round] = now() - t;
+#ifdef BENCH_FIELDS
+        t = now();
+        sink = proved_fields(bytes, length).number;
+        fields[round] = now() - t;
+#endif
         (void)sink;
     }
     mb = (double)length / 1e6;
@@ -157,6 +206,10 @@ int main(int argc, char **argv)
     printf("slovdrim_records %6.0f MB/s\n", p);
     printf("C, gcc -O2       %6.0f MB/s   ratio %.2f\n", g, p / g);
     printf("C, clang -O3     %6.0f MB/s   ratio %.2f\n", c, p / c);
+#ifdef BENCH_FIELDS
+    f = mb / median(fields, rounds);
+    printf("slovdrim_fields  %6.0f MB/s   %.2f times the time of slovdrim_records (at most 4 is the aim)\n", f, p / f);
+#endif
     free(bytes);
     return 0;
 }

@@ -1,8 +1,8 @@
 /*
  * slovdrim.h: the C interface of Slovdrim, a proved library for Czech bus timetables in the JDF 1.8 format.
  *
- * This version reads and writes the bytes of one file of a batch, and counts days. Each call answers exactly what its comment says, for every
- * input, or comes back with one numbered refusal; nothing is guessed and nothing is repaired.
+ * This version reads and writes the bytes of one file of a batch, checks its fields, and counts days. Each call answers exactly what its comment
+ * says, for every input, or comes back with one numbered refusal; nothing is guessed and nothing is repaired.
  *
  * For all calls:
  *
@@ -64,6 +64,8 @@ extern "C" {
 #define SLOVDRIM_TOO_LONG 1         /* the file has more than SLOVDRIM_LONGEST bytes; place: file */
 #define SLOVDRIM_NOT_LEGAL 2        /* no legal file goes on with this byte; place: file, offset of the byte */
 #define SLOVDRIM_ENDS_INSIDE 3      /* the file ends inside a record; place: file, offset = length of the file */
+#define SLOVDRIM_NOT_OF_ITS_KIND 5  /* a field isn't of its kind; place: file, record, field */
+#define SLOVDRIM_RULE_BROKEN 6      /* a rule inside a record is broken; place: file, record */
 #define SLOVDRIM_NO_SUCH_DAY 12     /* a date that isn't real or not of 1900-2099, or a day number past SLOVDRIM_LAST_DAY; no place */
 #define SLOVDRIM_NO_SUCH 20         /* no such file, record or field; no place */
 #define SLOVDRIM_TEXT_NOT_PERMITTED 21 /* the text can't stand in a field; no place */
@@ -142,6 +144,53 @@ typedef struct {
  */
 slovdrim_write_answer slovdrim_write(uint64_t file, uint64_t field, const uint8_t *text, size_t text_length, uint8_t *buffer, size_t buffer_length,
                                      uint64_t place);
+
+/*
+ * The fields of a file.
+ *
+ * Each field of the files 2 to 13 has a kind: digits from so many to so many, a text to so many bytes, one byte out of a few, a date or a time field; and it
+ * is required, or may be empty. All are as in the tables of JDF 1.8, with these readings:
+ *
+ *  - A number has 1 to 9 digits, a code number 1 to 5, a line 6, an ICO 8; leading zeros are fine. Linky's field 5 is empty or 3 digits.
+ *  - Lengths of texts count bytes, and blanks are bytes like any other. Zasspoje's stand has up to 48, Zaslinky's field 3 up to 254, Altlinky's field 2
+ *    1 to 20.
+ *  - One byte out of a few is that very byte: "01" is no 1. Pevnykod's sign is one of  X + 1 2 3 4 5 6 7 R # | < @ % W w x ~ I ( ) $ { } [ O v s  and 0xA7.
+ *  - A date is DDMMRRRR, a real Gregorian date of 1900-2099. A time field is HHMM from 0000 to 2359, or  |  or  <  or empty.
+ *  - A field that JDF requires under a condition may be empty as far as its kind goes; its condition is a rule.
+ *
+ * The rules inside a record:
+ *
+ *   Zastavky  the district is given if the state is CZ.
+ *   Dopravci  the person's name is given if the kind is 2.
+ *   Linky     each from-date is not after its to-date, where both are given.
+ *   Zasspoje  arrival and departure are both empty, or a time in one with the other empty, or a time in both, or departure  |  with arrival empty or  | ,
+ *             or departure  <  with arrival empty or  < . Kilometres are given exactly when there is a time or  | .
+ *   Caskody   a to-date needs a from-date and isn't before it. With a type the mark is two digits 10-79; without, it is one of  O m M [ p . Types 1 and 4
+ *             need a from-date; 2 and 3 need it and no to-date; 5 and 6 have neither; 7 and 8 have both.
+ *   Altdop    a to-date needs a from-date and isn't before it. At least one of code, type and from-date is given.
+ */
+
+typedef struct {
+    uint64_t number;
+    uint64_t file;
+    uint64_t record;
+    uint64_t field;
+    uint64_t offset;
+} slovdrim_fields_answer;
+
+/*
+ * The first fault inside one file, read by itself: no other file is looked at, so keys, links and signs permitted by place are not tried.
+ *
+ *   SLOVDRIM_ANSWER           the file is legal, each field is of its kind and each record keeps its rules. The file may have no records.
+ *   SLOVDRIM_NO_SUCH          `file` is not 1 to 13.
+ *   SLOVDRIM_TOO_LONG, SLOVDRIM_NOT_LEGAL, SLOVDRIM_ENDS_INSIDE  as for slovdrim_records: a file is legal to its end before a field is looked at.
+ *   SLOVDRIM_NOT_OF_ITS_KIND  `file`, `record` and `field` are set.
+ *   SLOVDRIM_RULE_BROKEN      `file` and `record` are set.
+ *
+ * The first that applies: the file's number, the file's bytes, then record by record, in each its fields in their order and after them its rules.
+ * File 1, VerzeJDF, has neither kinds nor rules: legal, it is answered with SLOVDRIM_ANSWER whatever its texts.
+ */
+slovdrim_fields_answer slovdrim_fields(uint64_t file, const uint8_t *bytes, size_t length);
 
 /*
  * The version of this interface: SLOVDRIM_VERSION of the header that the library was made with. It never refuses.
@@ -234,6 +283,7 @@ SLOVDRIM_LAYOUT(sizeof(size_t) == 8 && sizeof(void *) == 8, "lengths and pointer
 SLOVDRIM_LAYOUT(sizeof(slovdrim_records_answer) == 48 && offsetof(slovdrim_records_answer, records) == 40, "layout of slovdrim_records_answer");
 SLOVDRIM_LAYOUT(sizeof(slovdrim_stretch_answer) == 56 && offsetof(slovdrim_stretch_answer, length) == 48, "layout of slovdrim_stretch_answer");
 SLOVDRIM_LAYOUT(sizeof(slovdrim_write_answer) == 16 && offsetof(slovdrim_write_answer, place) == 8, "layout of slovdrim_write_answer");
+SLOVDRIM_LAYOUT(sizeof(slovdrim_fields_answer) == 40 && offsetof(slovdrim_fields_answer, offset) == 32, "layout of slovdrim_fields_answer");
 SLOVDRIM_LAYOUT(sizeof(slovdrim_day_answer) == 16 && offsetof(slovdrim_day_answer, day) == 8, "layout of slovdrim_day_answer");
 SLOVDRIM_LAYOUT(sizeof(slovdrim_date_answer) == 32 && offsetof(slovdrim_date_answer, year) == 24, "layout of slovdrim_date_answer");
 SLOVDRIM_LAYOUT(sizeof(slovdrim_weekday_answer) == 16 && offsetof(slovdrim_weekday_answer, weekday) == 8, "layout of slovdrim_weekday_answer");

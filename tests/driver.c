@@ -196,7 +196,8 @@ static void catch_crashes(void)
 
 /* Calls on the lent file */
 
-static struct lent file_bytes, text_bytes;
+struct lent file_bytes;
+static struct lent text_bytes;
 static struct room buffers[2];
 
 static void records_request(void)
@@ -448,6 +449,14 @@ int days_request(uint8_t letter)
 }
 #endif
 
+#ifndef SLOVDRIM_FIELDS
+int fields_request(uint8_t letter)
+{
+    (void)letter;
+    return 0;
+}
+#endif
+
 int main(void)
 {
     int i;
@@ -490,7 +499,7 @@ int main(void)
             give_words(&version, 1);
             break;
         default:
-            if (!days_request(letter))
+            if (!days_request(letter) && !fields_request(letter))
                 give_up("a request that it doesn't know");
         }
     }

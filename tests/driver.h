@@ -1,4 +1,4 @@
-/* What driver.c and driver_days.c share: the pipes, the rooms that lent memory stands in, and what is said when a call touches what it was not lent. */
+/* What driver.c, driver_days.c and driver_fields.c share: the pipes, the rooms that lent memory stands in, and what is said when a call touches what it was not lent. */
 #ifndef SLOVDRIM_DRIVER_H
 #define SLOVDRIM_DRIVER_H
 
@@ -31,6 +31,9 @@ const uint8_t *lent_at(const struct lent *l, enum placing where);
 /* NULL is lent too where there are no bytes. */
 int placings(const struct lent *l);
 
+/* The file that request L brought last. */
+extern struct lent file_bytes;
+
 uint64_t take_word(void);
 void take_bytes(uint8_t *to, size_t length);
 void give_words(const uint64_t *words, size_t count);
@@ -44,5 +47,8 @@ void about_to(const char *call, uint64_t a, uint64_t b, uint64_t c, int where, c
 
 /* One request of the calendar; 0 if the letter is none of its own. */
 int days_request(uint8_t letter);
+
+/* One request on the fields of the lent file; 0 if the letter is none of its own. */
+int fields_request(uint8_t letter);
 
 #endif

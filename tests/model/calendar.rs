@@ -27,7 +27,7 @@ fn is_leap(year: u64) -> bool {
     }
 }
 
-fn days_in(month: u64, year: u64) -> u64 {
+pub fn days_in(month: u64, year: u64) -> u64 {
     match month {
         4 | 6 | 9 | 11 => 30,
         2 => 28 + is_leap(year) as u64,

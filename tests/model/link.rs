@@ -8,6 +8,7 @@ use std::sync::mpsc::{sync_channel, Receiver, SyncSender};
 use std::sync::Arc;
 use std::thread::JoinHandle;
 
+use crate::fields::name_of;
 use crate::sweep::{Swept, NUMBERS};
 
 /// A call of the library, as it is named in a report.
@@ -27,6 +28,19 @@ pub enum Call {
     Week(u64),
     Holiday { number: u64, holidays: Arc<Vec<u64>> },
     Fits { sign: u64, number: u64, holidays: Arc<Vec<u64>> },
+    Fields { file: u64, bytes: Arc<Vec<u8>>, aims: Vec<Aim> },
+    HugeFields { file: u64, length: u64 },
+}
+
+/// What a question on the fields of a file was made for; the run counts how often each met each number.
+#[derive(Clone, Copy, PartialEq, Eq, PartialOrd, Ord)]
+pub enum Aim {
+    /// A field's own fault, or a text at the edge of what the field may hold.
+    Field(u64),
+    /// A rule inside a record, broken or kept.
+    Rule(&'static str),
+    /// A way of damage, or of putting two faults into a file.
+    Way(&'static str),
 }
 
 /// What the model expects: numbers, and for the writer the whole buffer too.
@@ -46,6 +60,8 @@ pub struct Report {
     pub tally: Tally,
     /// By week number.
     pub weeks: BTreeMap<u64, u64>,
+    /// By file, number and aim.
+    pub aims: BTreeMap<(u64, u64, Aim), u64>,
     /// Sweeps whose digests differ, to be looked at more closely.
     pub sweeps: Vec<Swept>,
 }
@@ -61,6 +77,9 @@ impl Report {
         }
         for (week, n) in other.weeks {
             *self.weeks.entry(week).or_insert(0) += n;
+        }
+        for (key, n) in other.aims {
+            *self.aims.entry(key).or_insert(0) += n;
         }
         self.sweeps.extend(other.sweeps);
     }
@@ -104,6 +123,7 @@ impl Call {
             Call::Week(_) => "slovdrim_week",
             Call::Holiday { .. } => "slovdrim_holiday",
             Call::Fits { .. } => "slovdrim_fits",
+            Call::Fields { .. } | Call::HugeFields { .. } => "slovdrim_fields",
         }
     }
 
@@ -111,9 +131,9 @@ impl Call {
         let name = self.name();
         match self {
             Call::Version => name.to_string(),
-            Call::Records { file, bytes } => format!("{} file {} bytes {}", name, file, hex(bytes)),
+            Call::Records { file, bytes } | Call::Fields { file, bytes, .. } => format!("{} file {} bytes {}", name, file, hex(bytes)),
             Call::Stretch { file, bytes, record, field } => format!("{} file {} record {} field {} bytes {}", name, file, record, field, hex(bytes)),
-            Call::HugeRecords { file, length } | Call::HugeStretch { file, length } => format!("{} file {} of {} zero bytes", name, file, length),
+            Call::HugeRecords { file, length } | Call::HugeStretch { file, length } | Call::HugeFields { file, length } => format!("{} file {} of {} zero bytes", name, file, length),
             Call::Write { file, field, text, buffer, place } => {
                 format!("{} file {} field {} place {} text {} buffer {}", name, file, field, place, hex(text), hex(buffer))
             }
@@ -130,6 +150,7 @@ impl Call {
     fn detail(&self, words: &[u64]) -> &'static str {
         let yes = words[1] != 0;
         match (self, words[0]) {
+            (Call::Fields { file, .. } | Call::HugeFields { file, .. }, _) if (1..=13).contains(file) => name_of(*file),
             (Call::Records { .. }, 0) if words[5] == 0 => "no records",
             (Call::Records { .. }, 0) => "records",
             (Call::Stretch { .. }, 0) if words[6] == 0 => "an empty text",
@@ -208,6 +229,11 @@ impl Checker {
             *self.report.tally.entry((a.call.name(), words[0], a.call.detail(&words))).or_insert(0) += 1;
             if matches!(a.call, Call::Week(_)) && words[0] == 0 {
                 *self.report.weeks.entry(words[1]).or_insert(0) += 1;
+            }
+            if let Call::Fields { file, aims, .. } = &a.call {
+                for aim in aims {
+                    *self.report.aims.entry((*file, words[0], *aim)).or_insert(0) += 1;
+                }
             }
         }
         Ok(())

@@ -1,16 +1,22 @@
-//! An independent implementation of document 01, "Bytes of a file" and "Days", and its comparison with the library.
+//! An independent implementation of document 01, "Bytes of a file", "Fields" and "Days", and its comparison with the library.
 //!
-//!     model compare files|days DRIVER ARGUMENTS..   ask the driver everything and compare
-//!     model almanac                                 every day of the model's own calendar, a line each
+//!     model compare files|days|fields DRIVER ARGUMENTS..   ask the driver everything and compare
+//!     model almanac                                        every day of the model's own calendar, a line each
+//!     model samples FOLDER                                 whether the model accepts each file of a batch, read by itself
 //!
-//! It was written from document 01 alone. It needs nothing but Rust's standard library.
+//! It was written from document 01 and the tables of document 000 alone. It needs nothing but Rust's standard library.
 
 mod calendar;
+mod damage;
 mod days;
+mod faults;
+mod fields;
 mod files;
 mod format;
 mod generator;
 mod link;
+mod maker;
+mod rules;
 mod sweep;
 
 use std::time::Instant;
@@ -129,6 +135,22 @@ fn compare_days(command: &[String]) -> Report {
     report
 }
 
+fn compare_fields(command: &[String]) -> Report {
+    let mut report = Report::default();
+    step(&mut report, command, "small facts", faults::small_facts);
+    step(&mut report, command, "samples", faults::samples);
+    step(&mut report, command, "legal files", faults::legal_files);
+    step(&mut report, command, "every field at its edges and damaged", faults::every_field);
+    step(&mut report, command, "every byte of every field", faults::every_byte);
+    step(&mut report, command, "dates and times", faults::dates_and_times);
+    step(&mut report, command, "every rule", rules::every_rule);
+    step(&mut report, command, "rules as they fall", rules::rules_as_they_fall);
+    step(&mut report, command, "two faults", faults::two_faults);
+    step(&mut report, command, "bytes before fields", faults::bytes_before_fields);
+    step(&mut report, command, "long files", faults::long_files);
+    report
+}
+
 /// Prints how often each answer was met; one that never was is a fault of the run, unless differences have kept it from being met.
 fn told(report: &mut Report, met: &'static [(&'static str, u64, &'static str)], weeks: bool) {
     for key in met {
@@ -174,8 +196,20 @@ fn main() {
             told(&mut report, DAYS_MET, true);
             report
         }
+        ["compare", "fields", _, ..] => {
+            let mut report = compare_fields(&arguments[2..]);
+            faults::told(&mut report);
+            report
+        }
+        ["samples", folder] => {
+            if !faults::samples_stand(folder) {
+                std::process::exit(1);
+            }
+            println!("{}: the model accepts all 13 files, each by itself", folder);
+            return;
+        }
         _ => {
-            eprintln!("model compare files|days DRIVER ARGUMENTS.. | model almanac");
+            eprintln!("model compare files|days|fields DRIVER ARGUMENTS.. | model almanac | model samples FOLDER");
             std::process::exit(2);
         }
     };

@@ -1,5 +1,5 @@
 // The scan of a file, field by field, and the stretch of one field: document 01, "Bytes of a file". The scan answers what the reading
-// of specs/Reading.antt comes to, byte by byte, and copies nothing.
+// of file's specs/Reading.antt comes to, byte by byte, and copies nothing.
 ghost use mathlib.Core.Path.{_≡_};
 ghost use mathlib.Core.Bool.{true};
 ghost use Prim.Native.Nat.{ℕ, _+_, _≤_, _<_};
@@ -157,8 +157,8 @@ fn text_after(s: &[u8], n: usize, others: usize) -> Stretch
 {
     let class = classes();
     let start = opening_of(s, n, others, &class) + 1;
-    let end = text_end(s, start, &class);
-    Stretch::At(start as u64, (end - start) as u64)
+    let size = text_end(&s[start..], 0, &class);
+    Stretch::At(start as u64, size as u64)
 }
 
 // The stretch of field f of record r in a legal file of k records.

@@ -131,8 +131,14 @@ int main(int argc, char **argv)
         for (field = 1; field <= kinds[file].fields; field++) {
             slovdrim_stretch_answer s = slovdrim_stretch(file, bytes, length, record, field);
             printf(field == 1 ? " " : " | ");
-            if (s.number == SLOVDRIM_ANSWER)
-                show(bytes + s.start, s.length);
+            if (s.number != SLOVDRIM_ANSWER) {
+                /* the count was of these very bytes, so this is never met; a refusal must not look like an empty text */
+                printf("\n");
+                fprintf(stderr, "holds: record %" PRIu64 ", field %" PRIu64 ": refusal %" PRIu64 "\n", record, field, s.number);
+                free(bytes);
+                return 1;
+            }
+            show(bytes + s.start, s.length);
         }
         putchar('\n');
     }

@@ -10,7 +10,8 @@
  *    A member that the number doesn't speak of is 0: after a refusal only the place that its comment names is set, after an answer only what was
  *    asked for.
  *  - Records and fields count from 1. Offsets and places count bytes from 0. Day 0 is 1 January 1900.
- *  - Any number may be passed for a file, record, field, place, day, month, year or sign. Those that name nothing are refused, never undefined.
+ *  - Any number may be passed for a file, record, field, place, day, month or year. Those that name nothing are refused, never undefined; any byte may
+ *    be passed for a sign.
  *  - A pointer is lent for the time of the call: the library keeps no pointer, allocates nothing and frees nothing. `length` bytes (or `count` numbers)
  *    from the pointer on must be readable, and for `buffer` writable. NULL is allowed where the length or count is 0. A pointer to uint64_t must be
  *    aligned for it.
@@ -121,7 +122,7 @@ typedef struct {
  *   SLOVDRIM_NO_SUCH      `file` is not 1 to 13; or the file is legal and has no such record, or its records have no such field.
  *   SLOVDRIM_TOO_LONG, SLOVDRIM_NOT_LEGAL, SLOVDRIM_ENDS_INSIDE  as for slovdrim_records: no stretch is given of a file that isn't legal to its end.
  *
- * Tested in this order: the file's number, the file's bytes, the record's and the field's numbers. One pass over the bytes for each call.
+ * Tested in this order: the file's number, the file's bytes, the record's and the field's numbers. At most two passes over the bytes for each call.
  */
 slovdrim_stretch_answer slovdrim_stretch(uint64_t file, const uint8_t *bytes, size_t length, uint64_t record, uint64_t field);
 
@@ -140,7 +141,7 @@ typedef struct {
  *   SLOVDRIM_NO_ROOM             fewer bytes than that are left from `place` on, or `place` is not inside the buffer.
  *
  * Tested in this order. No byte of the buffer changes but those of the field; on a refusal none does.
- * Fields written one after the other, each at the place that the last call answered, make a legal file.
+ * Fields 1 to the last of a record, and of the next, written one after the other, each at the place that the last call answered, make a legal file.
  */
 slovdrim_write_answer slovdrim_write(uint64_t file, uint64_t field, const uint8_t *text, size_t text_length, uint8_t *buffer, size_t buffer_length,
                                      uint64_t place);

@@ -1,4 +1,4 @@
--- What the calendar's calls come back with: for each answer's enum this paper's number and values, and for each call the answer.
+-- What the calendar's calls come back with: for each answer's enum document 01's number and values, and for each call the answer.
 -- A date that isn't real and a day past 73048 are refusal 12, whatever else was asked.
 use Prim.Native.Nat.{ℕ}
 use mathlib.Core.Bool.{Bool}

@@ -1,4 +1,5 @@
--- Demand 3: a file can be read in one way only. Over any number n of fields in a record, n at least 1; then for the thirteen files.
+-- Demand 3: a file can be read in one way only. Over any number n of fields in a record, n at least 1; ThirteenFiles.antt has it for the
+-- thirteen files.
 use mathlib.Core.Path.{_≡_, refl, sym, ap, _∙_, subst}
 use mathlib.Core.List.{List, _++_, append-assoc}
 use mathlib.Core.Logic.{_↔_, _⊎_, inl, inr}

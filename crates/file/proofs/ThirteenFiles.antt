@@ -24,6 +24,7 @@ use Rattle.file.proofs.Rewriting.{written-again-by}
 pub record InOneWay (file : ℕ) (s : List ℕ) : Type 0 where
   pub once : (rs qs : List Fields) → Permitted (fieldsOf file) rs → Permitted (fieldsOf file) qs → written rs ≡ written qs → rs ≡ qs
   pub reads : (rs : List Fields) → GivesFile file s rs ↔ (Permitted (fieldsOf file) rs × (written rs ≡ s))
+  pub answers : (k : ℕ) → recordsOf file s ≡ answered (k ∷ []) → Legal (fieldsOf file) s
   pub refuses : (Legal (fieldsOf file) s → ⊥)
       → (p : ℕ)
       × (((recordsOf file s ≡ refusedAt 2 file p) × (p < length s)) ⊎ ((recordsOf file s ≡ refusedAt 3 file p) × (p ≡ length s)))
@@ -72,6 +73,7 @@ module _ (file : ℕ) (s : List ℕ) (f : isFile file ≡ true) (short : length 
       record {
         once = written-once (fieldsOf file) h;
         reads = λ rs. let e = read-is-written (fieldsOf file) h s rs in (λ g. e .0 (back rs g), λ p. there rs (e .1 p));
+        answers = λ k e. let c = asked-whole file s k (sym e) in whole-legal (fieldsOf file) h s (rw (c .whole) tt);
         refuses =
             λ no-list.
             let l = longest-beginning (fieldsOf file) h s no-list in

@@ -441,22 +441,6 @@ static void sweep_request(void)
     give_words(sweep.stretch_hits, NUMBERS);
 }
 
-#ifndef SLOVDRIM_DAYS
-int days_request(uint8_t letter)
-{
-    (void)letter;
-    return 0;
-}
-#endif
-
-#ifndef SLOVDRIM_FIELDS
-int fields_request(uint8_t letter)
-{
-    (void)letter;
-    return 0;
-}
-#endif
-
 int main(void)
 {
     int i;

@@ -2,24 +2,21 @@
 use mathlib.Core.Path.{_≡_, refl, sym, ap, _∙_}
 use mathlib.Core.Bool.{Bool, true, false}
 use mathlib.Core.List.{List, [], _∷_}
-use Prim.Native.Nat.{ℕ, zero, suc, _+_, _-_, _≤_, _<_}
+use Prim.Native.Nat.{ℕ, suc, _+_, _-_, _≤_, _<_}
 use native.Mathlib.Numerals.{add-one}
 use native.Mathlib.Omega.{arith}
 use lib.Dec.{eqb, ltb}
 use lib.ListN.{length, getD, drop, drop-of-length-le, length-drop}
 use lib.Seq.{drop-cons, drop-drop}
-use borrow.Author.Tests.{eqb-true, lt-ltb, le-ltb, ltb-true, ltb-false, eq-eqb, ne-eqb}
+use borrow.Author.Tests.{eqb-true, lt-ltb, le-ltb, ltb-true, ltb-false, eq-eqb}
 use Rattle.laws.specs.Tests.{either, never, both-left}
 use Rattle.file.specs.Bytes.{quote, goes, matched, starts, comma, semicolon, CR, LF, ends, undefined, permittedByte, goesOn, closes}
 use Rattle.file.specs.Format.{ending}
-use Rattle.file.specs.Reading.{opening, within, State, state, isLast, stepIn, run, Span, finishedIn, spans, outcomeIn, outcome}
-use Rattle.file.specs.Fields.{closing, nextField, nextRecord, halt, endOf, closedBy, aheadOf, aheadFrom, aheadAt}
-use Rattle.file.specs.Reader.{Sought, OpensAt, textSpan, RecordAhead, AheadNear, EndsNear}
-use Rattle.file.specs.declared.Ahead.{Ahead}
+use Rattle.file.specs.Reading.{opening, within, State, state, isLast, stepIn, run, finishedIn, spans, outcomeIn, outcome}
+use Rattle.file.specs.Fields.{closing, nextField, nextRecord, halt, endOf, closedBy, aheadOf, aheadFrom}
 use Rattle.file.specs.declared.Ahead.the-variants.{Field, Stop}
 use Rattle.file.specs.declared.Outcome.the-variants.{Unfit}
 use Rattle.file.proofs.TextLaws.{goes-within, closes-at}
-use Rattle.file.proofs.Sound.{IsWhole}
 use Rattle.file.proofs.StepLaws.{TextRun, text-run, stays, run-cons, Passed, field-passed, field-halted}
 
 -- a byte that stands at a place
@@ -146,7 +143,7 @@ pub from-field : (s : List ℕ) (last : Bool) (at : ℕ) → matched (ending las
 unfolding aheadFrom
 from-field s last at e = rw (e, le-ltb (length (ending last)) (length (ending last)) (omega arith))
 
-no-quote-ahead : (s : List ℕ) (at : ℕ) (last : Bool) → eqb (getD s at 0) quote ≡ false → aheadOf s at last ≡ Stop at
+pub no-quote-ahead : (s : List ℕ) (at : ℕ) (last : Bool) → eqb (getD s at 0) quote ≡ false → aheadOf s at last ≡ Stop at
 unfolding aheadOf
 no-quote-ahead s at last q = rw q
 
@@ -256,167 +253,3 @@ module _ (n f k at a : ℕ) (last : Bool) (h : isLast n f ≡ last) (s : List �
       let g = rw q at e in
       let x : at ≡ place = cc in
       rw (drop-cons s at 0) (unopened n f k at a (getD s at 0) (drop (suc at) s) q ∙ rw (lt-ltb place (length s) (omega arith), x)))
-
--- the two ways to say what lies ahead of a place within the file are one; past its end nothing does
-pub ahead-at : (s : List ℕ) (at : ℕ) (last : Bool) → at < length s → aheadAt s at last ≡ aheadOf s at last
-unfolding aheadAt
-ahead-at s at last h =
-    either (eqb (getD s at 0) quote)
-    (λ q. rw (starts-at quote s at h, q) (sym (ahead-closed s at last (at + 1 + closes (drop (at + 1) s)) (eqb-true (getD s at 0) quote q) refl)))
-    (λ q. rw (starts-at quote s at h, q) (unopened-ahead q))
-  where
-    unopened-ahead : eqb (getD s at 0) quote ≡ false → Stop at ≡ aheadOf s at last
-    unopened-ahead q = sym (no-quote-ahead s at last q)
-
-pub at-closed : (s : List ℕ) (at : ℕ) (last : Bool) (close : ℕ) → starts quote (drop at s) ≡ true → close ≡ at + 1 + closes (drop (at + 1) s) → aheadAt s at last ≡ aheadFrom s last close
-unfolding aheadAt
-at-closed s at last close h e = rw (h, e)
-
-pub at-unopened : (s : List ℕ) (at : ℕ) (last : Bool) → starts quote (drop at s) ≡ false → aheadAt s at last ≡ Stop at
-unfolding aheadAt
-at-unopened s at last h = rw h
-
-pub near-as : (s : List ℕ) (at close : ℕ) (r : Ahead) → at < close → close ≤ length s → EndsNear s close r → AheadNear s at r
-unfolding EndsNear AheadNear
-near-as s at close (Field next) h n e = (omega arith, e .1)
-near-as s at close (Stop place) h n e = e n
-
-pub ahead-past : (s : List ℕ) (at : ℕ) (last : Bool) → length s ≤ at → aheadAt s at last ≡ Stop at
-unfolding aheadAt
-ahead-past s at last h = rw (starts-past quote s at h)
-
--- a record of which f fields have ended comes to `at`, whatever records stand before it
-pub record SoFar (n : ℕ) (s : List ℕ) (start at f : ℕ) : Type 0 where
-  pub from : start ≤ at
-  pub near : at ≤ length s
-  pub some : f ≡ 0 → at < length s
-  pub runs : (k : ℕ) → run n (state opening 0 k start 0) (drop start s) ≡ run n (state opening f k at 0) (drop at s)
-
-pub so-far-first : (n : ℕ) (s : List ℕ) (start : ℕ) → start < length s → SoFar n s start start 0
-so-far-first n s start h = record { from = omega arith; near = omega arith; some = λ e. h; runs = λ k. refl }
-
-ends-here : (n f k at : ℕ) (s : List ℕ) → at ≡ length s → (f ≡ 0 → ⊥) → outcome (run n (state opening f k at 0) (drop at s)) ≡ halt at (ltb at (length s))
-unfolding run outcomeIn
-ends-here n f k at s e h =
-    let g : length s ≤ at = omega arith in
-    rw (drop-of-length-le s g, ne-eqb f 0 h, le-ltb at (length s) g)
-
-module _ (n : ℕ) (s : List ℕ) (start at f : ℕ) (r : SoFar n s start at f) where
-  -- a field lies ahead only of a place within the file
-  within-file : (last : Bool) (next : ℕ) → aheadAt s at last ≡ Field next → at < length s
-  within-file last next e =
-      either (ltb at (length s))
-      (λ t. ltb-true at (length s) t)
-      (λ t. let g = sym (ahead-past s at last (ltb-false at (length s) t)) ∙ e in let z : _≡_ {A = ℕ} 0 1 = cc in absurd (omega arith))
-
-  pub so-far-next : (next : ℕ) → isLast n f ≡ false → aheadAt s at false ≡ Field next → SoFar n s start next (f + 1)
-  so-far-next next l e =
-      let i = within-file false next e in
-      let a = sym (ahead-at s at false i) ∙ e in
-      let o = field-on n f 0 at 0 false l s i next a in
-      record {
-        from = omega (arith, r .from, o .1);
-        near = field-near n f 0 at 0 false l s i next a;
-        some = λ z. absurd (omega arith);
-        runs = λ k. r .runs k ∙ field-run n f k at 0 false l s i next a;
-      }
-
-  pub so-far-last : (next : ℕ) → isLast n f ≡ true → aheadAt s at true ≡ Field next → RecordAhead n s start (Field next)
-  unfolding RecordAhead
-  so-far-last next l e =
-      let i = within-file true next e in
-      let a = sym (ahead-at s at true i) ∙ e in
-      let o = field-on n f 0 at 0 true l s i next a in
-      (omega (arith, r .from, o .1), field-near n f 0 at 0 true l s i next a, λ k. r .runs k ∙ field-run n f k at 0 true l s i next a)
-
-  pub so-far-stop : (last : Bool) (place : ℕ) → isLast n f ≡ last → aheadAt s at last ≡ Stop place → place ≤ length s → RecordAhead n s start (Stop place)
-  unfolding RecordAhead
-  so-far-stop last place l e near = (near, λ k. ap (λ (st : State). outcome st) (r .runs k) ∙ off k)
-    where
-      off : (k : ℕ) → outcome (run n (state opening f k at 0) (drop at s)) ≡ halt place (ltb place (length s))
-      off k =
-          either (ltb at (length s))
-          (λ t. let i = ltb-true at (length s) t in field-off n f k at 0 last l s i place (sym (ahead-at s at last i) ∙ e))
-          (λ t.
-          let g = ltb-false at (length s) t in
-          let x : Stop at ≡ Stop place = sym (ahead-past s at last g) ∙ e in
-          let y : at ≡ place = cc in
-          let near-at = r .near in
-          ends-here n f k at s (omega arith) (λ z. let u = r .some z in omega arith) ∙ rw y)
-
--- a reading that halts is not whole
-halt-not-whole : (p : ℕ) (t : Bool) → IsWhole (halt p t) → ⊥
-halt-not-whole p true w = w
-halt-not-whole p false w = w
-
--- where a text is still to come in a legal file, a whole field lies ahead
-pub record TextAhead (s : List ℕ) (at : ℕ) (last : Bool) : Type 0 where
-  pub within : at < length s
-  pub next : ℕ
-  pub ahead : aheadOf s at last ≡ Field next
-
-no-text : (n : ℕ) (st : State) (s : List ℕ) (at : ℕ) → length s ≤ at → spans n st (drop at s) ≡ []
-unfolding spans
-no-text n st s at h = rw (drop-of-length-le s h)
-
-pub text-ahead : (n f k at : ℕ) (s : List ℕ) → IsWhole (outcome (run n (state opening f k at 0) (drop at s))) → 0 < length (spans n (state opening f k at 0) (drop at s))
-    → TextAhead s at (isLast n f)
-text-ahead n f k at s w h =
-    let i : at < length s = either (ltb at (length s)) (λ t. ltb-true at (length s) t) (λ t. absurd (omega (arith, ap length (no-text n (state opening f k at 0) s at (ltb-false at (length s) t))))) in
-    go i (aheadOf s at (isLast n f)) refl
-  where
-    go : at < length s → (a : Ahead) → aheadOf s at (isLast n f) ≡ a → TextAhead s at (isLast n f)
-    go i (Field next) e = record { within = i; next = next; ahead = e }
-    go i (Stop place) e = absurd (halt-not-whole place (ltb place (length s)) (rw (field-off n f k at 0 (isLast n f) refl s i place e) at w))
-
--- the text that is sought has `left` texts before it from `at` on, where a field's opening quote is due
-pub record TextsLeft (n : ℕ) (s : List ℕ) (others at f left : ℕ) : Type 0 where
-  pub k : ℕ
-  pub whole : IsWhole (outcome (run n (state opening f k at 0) (drop at s)))
-  pub has : left < length (spans n (state opening f k at 0) (drop at s))
-  pub same : getD (spans n (state opening f k at 0) (drop at s)) left (record { start = 0; size = 0 }) ≡ textSpan n s others
-
-pub left-first : (n : ℕ) (s : List ℕ) (others : ℕ) → Sought n s others → TextsLeft n s others 0 0 others
-left-first n s others h = record { k = 0; whole = rw (h .whole) tt; has = h .has; same = refl }
-
-first-of : (xs : List Span) (x : Span) (l : List Span) → xs ≡ x ∷ l → (i : ℕ) → i ≤ 0 → getD xs i (record { start = 0; size = 0 }) ≡ x
-first-of xs x l e zero h = rw e
-first-of xs x l e (suc i) h = absurd (omega arith)
-
-module _ (n : ℕ) (s : List ℕ) (others at f left : ℕ) (l : TextsLeft n s others at f left) where
-  pub left-ahead : TextAhead s at (isLast n f)
-  left-ahead = text-ahead n f (l .k) at s (l .whole) (omega (arith, l .has))
-
-  -- past a whole field there is one text less
-  pub left-next : (next : ℕ) → aheadOf s at (isLast n f) ≡ Field next → 0 < left → TextsLeft n s others next (nextField (isLast n f) f) (left - 1)
-  left-next next e h =
-      let i = left-ahead .within in
-      let r = field-run n f (l .k) at 0 (isLast n f) refl s i next e in
-      let p = field-spans n f (l .k) at 0 (isLast n f) refl s i next e in
-      let d : left ≡ suc (left - 1) = omega arith in
-      record {
-        k = nextRecord (isLast n f) (l .k);
-        whole = rw r at (l .whole);
-        has = let g = rw p at (l .has) in omega arith;
-        same = (rw (p, d) at (l .same));
-      }
-
-  -- the place past it
-  abbrev pub past : ℕ
-  past = endOf s (at + 1) + length (closing (isLast n f))
-
-  pub past-is : left-ahead .next ≡ past
-  past-is = field-on n f (l .k) at 0 (isLast n f) refl s (left-ahead .within) (left-ahead .next) (left-ahead .ahead) .1
-
-  pub past-near : past ≤ length s
-  past-near = rw past-is at (field-near n f (l .k) at 0 (isLast n f) refl s (left-ahead .within) (left-ahead .next) (left-ahead .ahead))
-
-  pub left-past : 0 < left → TextsLeft n s others past (nextField (isLast n f) f) (left - 1)
-  left-past h = rw past-is at (left-next (left-ahead .next) (left-ahead .ahead) h)
-
-  -- where none stands before it, its opening quote is due here
-  pub left-none : left ≤ 0 → OpensAt n s others at
-  left-none h =
-      let a = left-ahead in
-      let p = field-spans n f (l .k) at 0 (isLast n f) refl s (a .within) (a .next) (a .ahead) in
-      record { near = a .within; text = sym (l .same) ∙ first-of _ _ _ p left h }

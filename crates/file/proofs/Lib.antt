@@ -2,6 +2,8 @@ pub mod TableLaws
 pub mod TextLaws
 pub mod StepLaws
 pub mod FieldLaws
+pub mod PassLaws
+pub mod SeekLaws
 pub mod ReadBack
 pub mod PlaceLaws
 pub mod Sound

@@ -6,7 +6,7 @@ use borrow.Author.Needs.{needs}
 use borrow.Author.Tests.{not-true, not-false}
 use denote.Ref.{now}
 use Rattle.file.specs.Reader.{AheadNear}
-use Rattle.file.proofs.FieldLaws.{at-closed, at-unopened, near-as}
+use Rattle.file.proofs.PassLaws.{at-closed, at-unopened, near-as}
 use Rattle.reader.proofs.last_field.Statement.{statement}
 use Rattle.reader.proofs.last_field.Tie as tie
 

@@ -9,7 +9,7 @@ use denote.Ref.{now}
 use Rattle.file.specs.Fields.{closing, endOf}
 use Rattle.file.specs.Reading.{isLast}
 use Rattle.file.proofs.Beginnings.{fewer}
-use Rattle.file.proofs.FieldLaws.{TextsLeft, left-first, left-ahead, past-near, left-past, left-none}
+use Rattle.file.proofs.SeekLaws.{TextsLeft, left-first, left-ahead, past-near, left-past, left-none}
 use Rattle.reader.proofs.opening_of.Statement.{statement}
 use Rattle.reader.proofs.opening_of.Tie as tie
 

@@ -14,7 +14,8 @@ use Rattle.file.specs.Reader.{AheadNear, RecordAhead}
 use Rattle.file.specs.Reading.{isLast}
 use Rattle.file.specs.declared.Ahead.{Ahead}
 use Rattle.file.specs.declared.Ahead.the-variants.{Field, Stop}
-use Rattle.file.proofs.FieldLaws.{matched-more, matched-none, matched-done, from-stop, from-field, at-closed, at-unopened, SoFar, so-far-first, so-far-next, so-far-last, so-far-stop}
+use Rattle.file.proofs.FieldLaws.{matched-more, matched-none, matched-done, from-stop, from-field}
+use Rattle.file.proofs.PassLaws.{at-closed, at-unopened, SoFar, so-far-first, so-far-next, so-far-last, so-far-stop}
 use Rattle.reader.proofs.record_ahead.Statement.{statement}
 use Rattle.reader.proofs.record_ahead.Tie as tie
 

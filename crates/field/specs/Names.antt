@@ -74,8 +74,8 @@ abbrev pub codeTo : Fields → Text
 codeTo r = field 7 r
 
 -- Altdop: an alternative carrier's codes, fields 4 to 9, type and dates
-abbrev pub carriersFile : ℕ
-carriersFile = 11
+abbrev pub alternativesFile : ℕ
+alternativesFile = 11
 
 abbrev pub firstCarrierCode : ℕ
 firstCarrierCode = 4

@@ -8,7 +8,7 @@ use Rattle.laws.specs.Tests.{pick, both, oneOf}
 use Rattle.calendar.specs.Dates.{within}
 use Rattle.file.specs.Format.{Text, Fields}
 use Rattle.field.specs.Values.{isEmpty, given, isByte, among, isDigits, value, dayOfText, isTime}
-use Rattle.field.specs.Names.{field, stopsFile, district, country, firmsFile, firmKind, personName, linesFile, licenceFrom, licenceTo, validFrom, validTo, tripStopsFile, kilometres, arrival, departure, timeCodesFile, mark, codeType, codeFrom, codeTo, carriersFile, firstCarrierCode, carrierCodes, carrierType, carrierFrom, carrierTo}
+use Rattle.field.specs.Names.{field, stopsFile, district, country, firmsFile, firmKind, personName, linesFile, licenceFrom, licenceTo, validFrom, validTo, tripStopsFile, kilometres, arrival, departure, timeCodesFile, mark, codeType, codeFrom, codeTo, alternativesFile, firstCarrierCode, carrierCodes, carrierType, carrierFrom, carrierTo}
 
 -- a, where it holds, asks for b
 abbrev pub asks : Bool → Bool → Bool
@@ -106,5 +106,5 @@ meets file r =
     (pick (eqb file linesFile) (lineRule r)
     (pick (eqb file tripStopsFile) (tripStopRule r)
     (pick (eqb file timeCodesFile) (timeCodeRule r)
-    (pick (eqb file carriersFile) (carrierRule r)
+    (pick (eqb file alternativesFile) (carrierRule r)
     true)))))

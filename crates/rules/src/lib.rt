@@ -4,7 +4,7 @@ mod texts;
 
 use walk::part;
 ghost use mathlib.Core.Path.{_≡_};
-ghost use Rattle.field.specs.Names.{stopsFile, firmsFile, linesFile, tripStopsFile, timeCodesFile, carriersFile, firstCarrierCode, carrierCodes};
+ghost use Rattle.field.specs.Names.{stopsFile, firmsFile, linesFile, tripStopsFile, timeCodesFile, alternativesFile, firstCarrierCode, carrierCodes};
 ghost use Rattle.field.specs.Rules.{stopRule, firmRule, lineRule, timeCodeRule, anyGiven, carrierRule, tripStopRule, meets};
 ghost use Rattle.rules.specs.Texts.{texts, Kinded};
 
@@ -67,8 +67,8 @@ fn time_code_rule(s: &[u8], places: &[usize; 14]) -> bool
 
 // Altdop: one of the six codes is given.
 fn has_code(s: &[u8], places: &[usize; 14]) -> bool
-    requires { ⌜ Kinded carriersFile (now s) (now places) ⌝ }
-    ensures { λ r. ⌜ r ≡ anyGiven carrierCodes firstCarrierCode (texts carriersFile (now (s .entry)) (now (places .entry))) ⌝ }
+    requires { ⌜ Kinded alternativesFile (now s) (now places) ⌝ }
+    ensures { λ r. ⌜ r ≡ anyGiven carrierCodes firstCarrierCode (texts alternativesFile (now (s .entry)) (now (places .entry))) ⌝ }
 {
     let mut i: usize = 3;
     while i < 9 {
@@ -83,8 +83,8 @@ fn has_code(s: &[u8], places: &[usize; 14]) -> bool
 
 // Altdop: the dates, and one of code, type, from-date.
 fn carrier_rule(s: &[u8], places: &[usize; 14]) -> bool
-    requires { ⌜ Kinded carriersFile (now s) (now places) ⌝ }
-    ensures { λ r. ⌜ r ≡ carrierRule (texts carriersFile (now (s .entry)) (now (places .entry))) ⌝ }
+    requires { ⌜ Kinded alternativesFile (now s) (now places) ⌝ }
+    ensures { λ r. ⌜ r ≡ carrierRule (texts alternativesFile (now (s .entry)) (now (places .entry))) ⌝ }
 {
     let from = part(s, places, 11);
     if !texts::closes_in_order(from, part(s, places, 12)) {

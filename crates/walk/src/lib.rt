@@ -6,6 +6,14 @@ ghost use Rattle.file.specs.Reader.{Classes};
 ghost use Rattle.walk.specs.Walk.{RecordAt, Cuts, Stands, partOf};
 use file::text_end;
 
+// What a search among a file's records finds.
+pub enum Found {
+    // Where the record starts.
+    At(usize),
+    // No record.
+    Nothing,
+}
+
 // Marks where each text of the record that starts at `at` starts, and where one behind the last would; answers where the next record
 // starts. A legal file needs no look at what closes a field. The places come as a slice, since the proof has to know how many there are.
 fn mark(s: &[u8], at: usize, n: usize, class: &[u8; 256], places: &mut [usize]) -> usize

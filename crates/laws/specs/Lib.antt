@@ -3,3 +3,4 @@ pub mod Below
 pub mod Splice
 pub mod Numbered
 pub mod Settled
+pub mod Match

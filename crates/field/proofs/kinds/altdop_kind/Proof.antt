@@ -2,9 +2,10 @@
 use mathlib.Core.Path.{refl, sym}
 use mathlib.Core.List.{_∷_}
 use lib.ListN.{drop}
+use Rattle.laws.specs.Match.{past, up}
 use Rattle.field.specs.Kinds.{altdop, code}
 use Rattle.field.specs.declared.Kind.{Kind}
-use Rattle.field.proofs.KindLaws.{run, past, at-zero, past-end, up}
+use Rattle.field.proofs.KindLaws.{run, at-zero, past-end}
 use Rattle.field.proofs.kinds.altdop_kind.Statement.{statement}
 use Rattle.field.proofs.kinds.altdop_kind.Tie as tie
 

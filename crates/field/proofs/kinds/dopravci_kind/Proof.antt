@@ -1,9 +1,10 @@
 -- `field::kinds::dopravci_kind` meets its contract: each arm names the kind that stands there, and no field has another number.
 use mathlib.Core.Path.{refl, sym}
 use mathlib.Core.List.{[], _∷_}
+use Rattle.laws.specs.Match.{past}
 use Rattle.field.specs.Kinds.{dopravci, maybeText}
 use Rattle.field.specs.declared.Kind.{Kind}
-use Rattle.field.proofs.KindLaws.{run, past, at-zero, past-end}
+use Rattle.field.proofs.KindLaws.{run, at-zero, past-end}
 use Rattle.field.proofs.kinds.dopravci_kind.Statement.{statement}
 use Rattle.field.proofs.kinds.dopravci_kind.Tie as tie
 

@@ -59,7 +59,10 @@ pub fn key_at(file: u64, s: &[u8], at: usize) -> Key
         }
     }
     let c = number_at(s, b.end + 3);
-    Key { hi: hi, lo: c.value }
+    Key {
+        hi: hi,
+        lo: c.value,
+    }
 }
 
 // Whether x is below y.

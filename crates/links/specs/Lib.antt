@@ -1,0 +1,4 @@
+pub mod Links
+pub mod Signs
+pub mod Stage
+pub mod Met

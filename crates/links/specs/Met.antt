@@ -1,0 +1,75 @@
+-- What a batch keeps once the stage of keys, links and signs finds nothing, row by row of document 01's table. `One of these records` is a
+-- quantified statement, and no fault function is named.
+use Prim.Native.Nat.{ℕ, _<_, _≤_}
+use mathlib.Core.Path.{_≡_}
+use mathlib.Core.Logic.{_⊎_}
+use mathlib.Core.List.{List, [], _∷_}
+use lib.ListN.{getD, length}
+use Rattle.file.specs.Format.{Fields}
+use Rattle.field.specs.Values.{value}
+use Rattle.field.specs.Names.{field}
+use Rattle.keys.specs.Keys.{keyOf}
+use Rattle.thirteen.specs.Batch.{Batch, recordsOf}
+
+-- r is a record of this file
+abbrev pub Stands : Batch → ℕ → Fields → Type 0
+Stands b file r = (i : ℕ) × (i < length (recordsOf b file)) × (getD (recordsOf b file) i [] ≡ r)
+
+-- no two records of this file have one key
+abbrev pub Distinct : Batch → ℕ → Type 0
+Distinct b file =
+    (i j : ℕ) → i < j → j < length (recordsOf b file) → keyOf file (getD (recordsOf b file) i []) ≡ keyOf file (getD (recordsOf b file) j []) → ⊥
+
+-- a record of this file has these numbers as its key
+abbrev pub Reaches : Batch → ℕ → List ℕ → Type 0
+Reaches b file key = (q : Fields) × Stands b file q × (keyOf file q ≡ key)
+
+-- the number in field f
+abbrev pub number : ℕ → Fields → ℕ
+number f r = value (field f r)
+
+-- line, stop, carrier and code of field f; trip and line's stop of the fields that name them
+abbrev pub ToLine : Batch → ℕ → Fields → Type 0
+ToLine b f r = Reaches b 5 (number f r ∷ [])
+
+abbrev pub ToStop : Batch → ℕ → Fields → Type 0
+ToStop b f r = Reaches b 2 (number f r ∷ [])
+
+abbrev pub ToCarrier : Batch → ℕ → Fields → Type 0
+ToCarrier b f r = Reaches b 4 (number f r ∷ [])
+
+abbrev pub ToTrip : Batch → Fields → Type 0
+ToTrip b r = Reaches b 6 (number 1 r ∷ number 2 r ∷ [])
+
+abbrev pub ToLineStop : Batch → Fields → Type 0
+ToLineStop b r = Reaches b 7 (number 1 r ∷ number 3 r ∷ [])
+
+-- codes: each is empty, or a record of Pevnykod has its number
+abbrev pub ToCodes : Batch → ℕ → ℕ → Fields → Type 0
+ToCodes b from to r = (f : ℕ) → from ≤ f → f ≤ to → (length (field f r) ≡ 0) ⊎ Reaches b 3 (number f r ∷ [])
+
+-- every record of a file keeps this
+abbrev pub Each : Batch → ℕ → (Fields → Type 0) → Type 0
+Each b file keeps = (r : Fields) → Stands b file r → keeps r
+
+-- document 01's table: keys and links
+pub record Linking (b : Batch) : Type 0 where
+  pub stops-key : Distinct b 2
+  pub stops : Each b 2 (λ r. ToCodes b 7 12 r)
+  pub codes-key : Distinct b 3
+  pub carriers-key : Distinct b 4
+  pub lines-key : Distinct b 5
+  pub lines : Each b 5 (λ r. ToCarrier b 3 r)
+  pub trips-key : Distinct b 6
+  pub trips : Each b 6 (λ r. ToLine b 1 r × ToCodes b 3 12 r)
+  pub line-stops-key : Distinct b 7
+  pub line-stops : Each b 7 (λ r. ToLine b 1 r × ToStop b 4 r × ToCodes b 5 7 r)
+  pub trip-stops-key : Distinct b 8
+  pub trip-stops : Each b 8 (λ r. ToTrip b r × ToLineStop b r × ToStop b 4 r × ToCodes b 6 7 r)
+  pub notes-key : Distinct b 9
+  pub notes : Each b 9 (λ r. ToLine b 1 r)
+  pub time-codes-key : Distinct b 10
+  pub time-codes : Each b 10 (λ r. ToTrip b r)
+  pub alternatives : Each b 11 (λ r. ToTrip b r × ToCarrier b 3 r × ToCodes b 4 9 r)
+  pub other-names : Each b 12 (λ r. ToLine b 1 r)
+  pub seats : Each b 13 (λ r. ToLine b 1 r × ((number 2 r ≡ 0) ⊎ ToTrip b r))

@@ -1,0 +1,72 @@
+// Files whose keys rise from record to record: one pass tells, and then a record is found by bisection on the file's bytes, with no memory
+// beside them. All of it is inner.
+use keys::Key;
+use keys::key_at;
+use keys::less;
+use lines::line_after;
+ghost use mathlib.Core.Path.{_≡_};
+ghost use Prim.Native.Nat.{_<_};
+ghost use Rattle.file.specs.Files.{fieldsOf};
+ghost use Rattle.file.specs.Records.{recordsIn};
+ghost use Rattle.keys.specs.Keys.{none};
+ghost use Rattle.keys.specs.Ranks.{rankOf, rankKey};
+ghost use Rattle.lines.specs.Order.{isRising, firstFrom};
+ghost use Rattle.ordered.specs.Ordered.{KeyFile, KeysRise, PlaceIn, recordsFrom};
+
+// Whether every key is above those before it.
+pub fn rising(file: u64, s: &[u8]) -> bool
+    requires { ⌜ KeyFile file (now s) ⌝ }
+    ensures { λ r. ⌜ r ≡ isRising (rankOf file) (recordsIn (fieldsOf file) (now (s .entry))) ⌝ }
+{
+    if s.len() == 0 {
+        return true;
+    }
+    let mut last = key_at(file, s, 0);
+    let mut at = line_after(s, 0);
+    while at < s.len() {
+        let k = key_at(file, s, at);
+        if !less(last, k) {
+            return false;
+        }
+        last = k;
+        at = line_after(s, at);
+    }
+    true
+}
+
+// The first record from `from` on whose key isn't below x, or the file's end.
+pub fn scan(file: u64, s: &[u8], from: usize, x: Key) -> usize
+    requires { ⌜ KeyFile file (now s) × PlaceIn file (now s) from × (x .lo < none) ⌝ }
+    ensures { λ r. ⌜ r ≡ firstFrom (rankOf file) (rankKey x) from (recordsFrom file (now (s .entry)) from) ⌝ }
+{
+    let mut at = from;
+    while at < s.len() {
+        if !less(key_at(file, s, at), x) {
+            return at;
+        }
+        at = line_after(s, at);
+    }
+    at
+}
+
+// The same of the whole file, by bisection: behind the next LF from the middle on a record starts.
+pub fn bisect(file: u64, s: &[u8], x: Key) -> usize
+    requires { ⌜ KeyFile file (now s) × KeysRise file (now s) × (x .lo < none) ⌝ }
+    ensures { λ r. ⌜ r ≡ firstFrom (rankOf file) (rankKey x) 0 (recordsIn (fieldsOf file) (now (s .entry))) ⌝ }
+{
+    let mut lo = 0;
+    let mut hi = s.len();
+    while lo < hi {
+        let mid = lo + (hi - lo) / 2;
+        let to = line_after(s, mid);
+        if to >= hi {
+            return scan(file, s, lo, x);
+        }
+        if less(key_at(file, s, to), x) {
+            lo = to;
+        } else {
+            hi = mid;
+        }
+    }
+    scan(file, s, lo, x)
+}

@@ -1,6 +1,7 @@
 // Files whose keys rise from record to record: one pass tells, and then a record is found by bisection on the file's bytes, with no memory
 // beside them. All of it is inner.
 use keys::Key;
+use keys::equal;
 use keys::key_at;
 use keys::less;
 use lines::line_after;
@@ -35,7 +36,7 @@ pub fn rising(file: u64, s: &[u8]) -> bool
 }
 
 // The first record from `from` on whose key isn't below x, or the file's end.
-pub fn scan(file: u64, s: &[u8], from: usize, x: Key) -> usize
+fn scan(file: u64, s: &[u8], from: usize, x: Key) -> usize
     requires { ⌜ KeyFile file (now s) × PlaceIn file (now s) from × (x .lo < none) ⌝ }
     ensures { λ r. ⌜ r ≡ firstFrom (rankOf file) (rankKey x) from (recordsFrom file (now (s .entry)) from) ⌝ }
 {
@@ -50,7 +51,7 @@ pub fn scan(file: u64, s: &[u8], from: usize, x: Key) -> usize
 }
 
 // The same of the whole file, by bisection: behind the next LF from the middle on a record starts.
-pub fn bisect(file: u64, s: &[u8], x: Key) -> usize
+fn bisect(file: u64, s: &[u8], x: Key) -> usize
     requires { ⌜ KeyFile file (now s) × KeysRise file (now s) × (x .lo < none) ⌝ }
     ensures { λ r. ⌜ r ≡ firstFrom (rankOf file) (rankKey x) 0 (recordsIn (fieldsOf file) (now (s .entry))) ⌝ }
 {
@@ -69,4 +70,29 @@ pub fn bisect(file: u64, s: &[u8], x: Key) -> usize
         }
     }
     scan(file, s, lo, x)
+}
+
+// inner: the same, with the place that was found last and the one behind it tried first: neighbouring records ask neighbouring questions
+pub fn first_from(file: u64, s: &[u8], last: usize, x: Key) -> usize
+    requires { ⌜ KeyFile file (now s) × KeysRise file (now s) × PlaceIn file (now s) last × (x .lo < none) ⌝ }
+    ensures { λ r. ⌜ r ≡ firstFrom (rankOf file) (rankKey x) 0 (recordsIn (fieldsOf file) (now (s .entry))) ⌝ }
+{
+    if last >= s.len() {
+        return bisect(file, s, x);
+    }
+    let k = key_at(file, s, last);
+    if equal(k, x) {
+        return last;
+    }
+    if !less(k, x) {
+        return bisect(file, s, x);
+    }
+    let next = line_after(s, last);
+    if next >= s.len() {
+        return next;
+    }
+    if !less(key_at(file, s, next), x) {
+        return next;
+    }
+    bisect(file, s, x)
 }

@@ -18,7 +18,7 @@ ghost use Rattle.file.specs.Records.{recordsIn};
 ghost use Rattle.keys.specs.Keys.{keyFields, none, lesser, firstWith, nextNumber, nextOf};
 ghost use Rattle.keys.specs.Ranks.{rankOf, rankKey};
 ghost use Rattle.lines.specs.Order.{firstRanked};
-ghost use Rattle.ordered.specs.Ordered.{KeyFile, KeysRise, PlaceIn};
+ghost use Rattle.keys.specs.KeyFiles.{KeyFile, KeysRise, PlaceIn};
 ghost use Rattle.hinted.specs.Hinted.{IsIndex};
 ghost use Rattle.find.specs.Find.{Serves, Asks, tripAt};
 

@@ -13,7 +13,7 @@ ghost use Rattle.file.specs.Records.{recordsIn};
 ghost use Rattle.keys.specs.Keys.{none};
 ghost use Rattle.keys.specs.Ranks.{rankOf, rankKey};
 ghost use Rattle.lines.specs.Index.{Start};
-ghost use Rattle.ordered.specs.Ordered.{KeyFile};
+ghost use Rattle.keys.specs.KeyFiles.{KeyFile};
 ghost use Rattle.hinted.specs.Hinted.{IsIndex, Looked, Lower};
 
 // How many records a file has.
@@ -62,12 +62,9 @@ fn step(j: Key, w: usize, k: Key, x: usize) -> usize
 
 // Looks at a list once. As many entries as records, each where a record starts, no two the same: so none is missing.
 pub fn look_at(file: u64, s: &[u8], order: &[u32]) -> usize
-    requires { ⌜ KeyFile file (now s) ⌝ }
+    requires { ⌜ KeyFile file (now s) × (length (now order) ≡ length (recordsIn (fieldsOf file) (now s))) ⌝ }
     ensures { λ r. ⌜ Looked file (now (s .entry)) (now (order .entry)) r ⌝ }
 {
-    if order.len() != count(file, s) {
-        return 0;
-    }
     if order.len() == 0 {
         return 2;
     }

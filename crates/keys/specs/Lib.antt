@@ -1,2 +1,3 @@
 pub mod Keys
 pub mod Ranks
+pub mod KeyFiles

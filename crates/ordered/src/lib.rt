@@ -12,7 +12,7 @@ ghost use Rattle.file.specs.Records.{recordsIn};
 ghost use Rattle.keys.specs.Keys.{none};
 ghost use Rattle.keys.specs.Ranks.{rankOf, rankKey};
 ghost use Rattle.lines.specs.Order.{isRising, firstFrom};
-ghost use Rattle.ordered.specs.Ordered.{KeyFile, KeysRise, PlaceIn, recordsFrom};
+ghost use Rattle.keys.specs.KeyFiles.{KeyFile, KeysRise, PlaceIn, recordsFrom};
 
 // Whether every key is above those before it.
 pub fn rising(file: u64, s: &[u8]) -> bool

@@ -1,0 +1,74 @@
+-- The ways to the records of a batch's keyed files, files 2-10. Where the part of the lent list for a file stands: the list has one part for
+-- each of the files 2-10, in this order, whose keys don't rise, with as many entries as the file has records; nothing for a file whose keys
+-- rise. Three numbers are kept for each file: how, and where its part begins and ends.
+use Prim.Native.Nat.{ℕ, _+_, _-_, _*_, _≤_, _<_}
+use mathlib.Core.Path.{_≡_}
+use mathlib.Core.Bool.{Bool, true, false}
+use mathlib.Core.List.{List}
+use lib.Dec.{eqb}
+use lib.ListN.{length, getD, take, drop, set}
+use Rattle.laws.specs.Tests.{oneOf}
+use Rattle.walk.specs.declared.Found.{Found}
+use Rattle.walk.specs.declared.Found.the-variants.{At, Nothing}
+use Rattle.keys.specs.Keys.{keyOf, has}
+use Rattle.keys.specs.KeyFiles.{KeyFile, PlaceIn}
+use Rattle.keys.specs.Ranks.{IsKeyed, recordAt}
+use Rattle.find.specs.Find.{Serves}
+use Rattle.thirteen.specs.Batch.{Batch, fileIn}
+
+-- the keys rise; the list's part is an index whose keys are all different
+abbrev pub rises : ℕ → Bool
+rises how = eqb how 1
+
+abbrev pub apart : ℕ → Bool
+apart how = oneOf (eqb how 1) (eqb how 2)
+
+-- a part of the list
+abbrev pub partOf : List ℕ → ℕ → ℕ → List ℕ
+partOf order from to = take (to - from) (drop from order)
+
+-- no record has the key of an earlier one
+abbrev pub NoneUsed : ℕ → List ℕ → Type 0
+NoneUsed file s = (at : ℕ) (p : PlaceIn file s at) → at < length s → has file (keyOf file (recordAt file s at)) (p .past) ≡ false
+
+-- the way to the records of one file
+pub record Way (file : ℕ) (s order : List ℕ) (how from to : ℕ) : Type 0 where
+  pub order : from ≤ to
+  pub near : to ≤ length order
+  pub serves : Serves file s (rises how) (partOf order from to)
+  pub once : apart how ≡ true → NoneUsed file s
+
+-- the three numbers of a file
+abbrev pub howOf : List ℕ → ℕ → ℕ
+howOf ways file = getD ways (file * 3) 0
+
+abbrev pub fromOf : List ℕ → ℕ → ℕ
+fromOf ways file = getD ways (file * 3 + 1) 0
+
+abbrev pub toOf : List ℕ → ℕ → ℕ
+toOf ways file = getD ways (file * 3 + 2) 0
+
+-- the way to each keyed file
+abbrev pub WayTo : Batch → List ℕ → List ℕ → ℕ → Type 0
+WayTo b order ways file = Way file (fileIn b file) order (howOf ways file) (fromOf ways file) (toOf ways file)
+
+abbrev pub Ways : Batch → List ℕ → List ℕ → Type 0
+Ways b order ways = (file : ℕ) → IsKeyed file → WayTo b order ways file
+
+-- the keyed files are legal and have numbers in their keys
+abbrev pub KeyFiles : Batch → Type 0
+KeyFiles b = (file : ℕ) → IsKeyed file → KeyFile file (fileIn b file)
+
+-- where a record was found last in each file
+abbrev pub Lasts : Batch → List ℕ → Type 0
+Lasts b last = (file : ℕ) → IsKeyed file → PlaceIn file (fileIn b file) (getD last file 0)
+
+-- what a search asks
+pub record Looks (b : Batch) (order ways last : List ℕ) : Type 0 where
+  pub ways : Ways b order ways
+  pub lasts : Lasts b last
+
+-- the places that are remembered, with what was found
+unfoldable pub remembered : List ℕ → ℕ → Found → List ℕ
+remembered last file (At at) = set last file at
+remembered last file Nothing = last

@@ -1,0 +1,155 @@
+-- Laws of a legal file's lines: LF stands at record ends alone, so the place behind an LF is where a record starts, or the file's end.
+use mathlib.Core.Path.{_≡_, refl, sym, ap, _∙_}
+use mathlib.Core.Bool.{true, false, not}
+use mathlib.Core.List.{List, [], _∷_, _++_, append-assoc}
+use Prim.Native.Nat.{ℕ, zero, suc, _+_, _-_, _≤_, _<_}
+use native.Mathlib.Numerals.{add-one}
+use native.Mathlib.Omega.{arith}
+use lib.Dec.{eqb, ltb}
+use lib.ListN.{length, getD, drop, drop-of-length-le, length-append, length-drop}
+use lib.Seq.{drop-cons, drop-drop, drop-at, drop-append-add}
+use borrow.Author.Tests.{eq-eqb, ne-eqb, ltb-true, ltb-false}
+use Rattle.laws.specs.Tests.{either, never, both-left, both-right}
+use Rattle.file.specs.Bytes.{quote, comma, semicolon, CR, LF, ends, undefined, permittedByte, goesOn, permittedText}
+use Rattle.file.specs.Format.{Text, Fields, writtenField, writtenRecord, written, PermittedTexts, PermittedRecord, Permitted}
+use Rattle.file.specs.Reader.{Reads}
+use Rattle.file.specs.Records.{recordsIn}
+use Rattle.file.proofs.PlaceLaws.{read-count}
+use Rattle.file.proofs.RecordLaws.{Legible, legible, written-records}
+use Rattle.walk.specs.Walk.{LegalFrom, RecordAt}
+use Rattle.walk.proofs.WalkLaws.{none-left}
+use Rattle.lines.specs.Lines.{lead, behind, Place, Next}
+
+-- `lead` at a place, by the byte there
+pub lead-hit : (s : List ℕ) (i : ℕ) → i < length s → getD s i 0 ≡ 10 → lead (drop i s) ≡ 0
+unfolding lead
+lead-hit s i h e = rw (drop-cons s i 0, eq-eqb _ _ e)
+
+pub lead-miss : (s : List ℕ) (i : ℕ) → i < length s → (getD s i 0 ≡ 10 → ⊥) → lead (drop i s) ≡ suc (lead (drop (i + 1) s))
+unfolding lead
+lead-miss s i h e = rw (add-one, drop-cons s i 0, ne-eqb _ _ e)
+
+pub lead-end : (s : List ℕ) (i : ℕ) → length s ≤ i → lead (drop i s) ≡ 0
+unfolding lead
+lead-end s i h = rw (drop-of-length-le s h)
+
+-- bytes with no LF among them
+unfoldable Plain : List ℕ → Type 0
+Plain [] = Unit
+Plain (b ∷ l) = (b ≡ 10 → ⊥) × Plain l
+
+plain-append : (a b : List ℕ) → Plain a → Plain b → Plain (a ++ b)
+unfolding Plain
+plain-append [] b p q = q
+plain-append (x ∷ a) b p q = (p .0, plain-append a b (p .1) q)
+
+-- no permitted byte is LF
+plain-byte : (b : ℕ) → permittedByte b ≡ true → b ≡ 10 → ⊥
+unfolding permittedByte undefined
+plain-byte b p e = never (rw e at p)
+
+plain-text : (t : Text) → permittedText t ≡ true → Plain t
+unfolding Plain permittedText goesOn
+plain-text [] p = tt
+plain-text (b ∷ t) p =
+    let g = both-left (goesOn (b ∷ t)) (permittedText t) p in
+    let q = both-right (goesOn (b ∷ t)) (permittedText t) p in
+    (plain-byte b (both-left (permittedByte b) (not (ends (b ∷ t))) g), plain-text t q)
+
+-- a record without the LF that ends it
+unfoldable body : Fields → List ℕ
+body [] = []
+body (t ∷ []) = quote ∷ (t ++ quote ∷ semicolon ∷ CR ∷ [])
+body (t ∷ u ∷ ts) = writtenField false t ++ body (u ∷ ts)
+
+-- no LF stands in it
+plain-body : (r : Fields) → PermittedTexts r → Plain (body r)
+unfolding body writtenField PermittedTexts Plain
+plain-body [] p = tt
+plain-body (t ∷ []) p =
+    let close : Plain (quote ∷ semicolon ∷ CR ∷ []) = ((λ e. omega arith), ((λ e. omega arith), ((λ e. omega arith), tt))) in
+    ((λ e. omega arith), plain-append t (quote ∷ semicolon ∷ CR ∷ []) (plain-text t (p .0)) close)
+plain-body (t ∷ u ∷ ts) p =
+    let close : Plain (quote ∷ comma ∷ []) = ((λ e. omega arith), ((λ e. omega arith), tt)) in
+    let f : Plain (writtenField false t) = ((λ e. omega arith), plain-append t (quote ∷ comma ∷ []) (plain-text t (p .0)) close) in
+    plain-append (writtenField false t) (body (u ∷ ts)) f (plain-body (u ∷ ts) (p .1))
+
+-- an LF ends it
+record-body : (r : Fields) (rest : List ℕ) → 1 ≤ length r → writtenRecord r ++ rest ≡ body r ++ LF ∷ rest
+unfolding body writtenField writtenRecord
+record-body [] rest h = absurd (omega arith)
+record-body (t ∷ []) rest h = simp append-assoc
+record-body (t ∷ u ∷ ts) rest h =
+    let f = writtenField false t in
+    append-assoc f (writtenRecord (u ∷ ts)) rest
+    ∙ ap (λ (l : List ℕ). f ++ l) (record-body (u ∷ ts) rest (omega arith))
+    ∙ sym (append-assoc f (body (u ∷ ts)) (LF ∷ rest))
+
+size-body : (r : Fields) → 1 ≤ length r → length (writtenRecord r) ≡ length (body r) + 1
+size-body r h =
+    let a = length-append (writtenRecord r) [] in
+    let b = length-append (body r) (LF ∷ []) in
+    omega (arith, a, b, ap length (record-body r [] h))
+
+-- from anywhere in a line, its LF comes next
+lead-plain : (a rest : List ℕ) (k : ℕ) → Plain a → k ≤ length a → k + lead (drop k (a ++ LF ∷ rest)) ≡ length a
+unfolding Plain lead
+lead-plain [] rest zero p h = refl
+lead-plain [] rest (suc k) p h = absurd (omega arith)
+lead-plain (b ∷ a) rest zero p h = rw (ne-eqb b 10 (p .0)) (omega (arith, lead-plain a rest 0 (p .1) (omega arith)))
+lead-plain (b ∷ a) rest (suc k) p h = omega (arith, lead-plain a rest k (p .1) (omega arith))
+
+-- from anywhere in a record, the LF behind it comes next
+lead-record : (r : Fields) (rest : List ℕ) (k : ℕ) → 1 ≤ length r → PermittedTexts r → k < length (writtenRecord r)
+    → k + lead (drop k (writtenRecord r ++ rest)) + 1 ≡ length (writtenRecord r)
+lead-record r rest k h p l =
+    let z = size-body r h in
+    rw (record-body r rest h) (omega (arith, z, lead-plain (body r) rest k (plain-body r p) (omega arith)))
+
+-- the writing of two lists, one behind the other
+written-append : (a b : List Fields) → written (a ++ b) ≡ written a ++ written b
+unfolding written
+written-append [] b = refl
+written-append (r ∷ a) b = rw (written-append a b) (sym (append-assoc (writtenRecord r) (written a) (written b)))
+
+permitted-tail : (n : ℕ) (a b : List Fields) → Permitted n (a ++ b) → Permitted n b
+unfolding Permitted
+permitted-tail n [] b p = p
+permitted-tail n (r ∷ a) b p = permitted-tail n a b (p .1)
+
+-- how many bytes records take, and one more
+pub size-append : (a b : List Fields) → length (written (a ++ b)) ≡ length (written a) + length (written b)
+size-append a b = ap length (written-append a b) ∙ length-append (written a) (written b)
+
+pub size-cons : (r : Fields) (rs : List Fields) → length (written (r ∷ rs)) ≡ length (writtenRecord r) + length (written rs)
+unfolding written
+size-cons r rs = length-append (writtenRecord r) (written rs)
+
+pub size-one : (r : Fields) → length (written (r ∷ [])) ≡ length (writtenRecord r)
+unfolding written
+size-one r = omega (arith, size-cons r [])
+
+-- records that stand from a place on lead to the next one behind them
+pub record Onward (n : ℕ) (s : List ℕ) (at : ℕ) (rest : List Fields) : Type 0 where
+  pub place : Place n s at
+  pub left : recordsIn n (drop at s) ≡ rest
+
+pub place-on : (n : ℕ) (s : List ℕ) (lo : ℕ) → Place n s lo → (a b : List Fields) → recordsIn n (drop lo s) ≡ a ++ b
+    → (t : ℕ) → t ≡ lo + length (written a) → Onward n s t b
+place-on n s lo p a b e t z =
+    let some = p .legal .reads .some in
+    let l = legible n (drop lo s) (p .legal .count) (p .legal .reads) in
+    let q : Permitted n b = permitted-tail n a b (rw e at (l .permitted)) in
+    let w : drop lo s ≡ written a ++ written b = sym (l .bytes) ∙ ap written e ∙ written-append a b in
+    let d : drop t s ≡ written b = rw (z, ← drop-drop (length (written a)) lo s, w) (drop-at (written a) (written b) (length (written a)) refl) in
+    let left : recordsIn n (drop t s) ≡ b = rw (d, written-records n some b q) in
+    record {
+      place = record {
+        past = p .past ++ a;
+        whole = p .whole ∙ ap (λ (x : List Fields). p .past ++ x) (e ∙ ap (λ (x : List Fields). a ++ x) (sym left)) ∙ sym (append-assoc (p .past) a (recordsIn n (drop t s)));
+        size = size-append (p .past) a ∙ omega (arith, p .size);
+        legal = record { count = length b; reads = record { some = some; whole = rw d (read-count n some b q) } };
+        near = omega (arith, p .near, length-drop lo s, ap length w, length-append (written a) (written b));
+      };
+      left = left;
+    }

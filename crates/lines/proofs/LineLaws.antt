@@ -153,3 +153,132 @@ place-on n s lo p a b e t z =
       };
       left = left;
     }
+
+-- a legal file's start is a place
+pub place-start : (n : ℕ) (s : List ℕ) → LegalFrom n s 0 → Place n s 0
+unfolding written
+place-start n s h = record { past = []; whole = refl; size = refl; legal = h; near = omega arith }
+
+-- at the end no records are left
+pub none-at : (n : ℕ) (s : List ℕ) (at : ℕ) → Place n s at → length s ≤ at → recordsIn n (drop at s) ≡ []
+none-at n s at p h = none-left n s at h
+
+-- where bytes are left, a record starts
+pub record-at : (n : ℕ) (s : List ℕ) (at : ℕ) → Place n s at → at < length s → n ≤ 13 → RecordAt n s at
+record-at n s at p h r = record { legal = p .legal; more = h; room = r }
+
+-- the record that stands first from `at` on
+record Opens (n : ℕ) (s : List ℕ) (at : ℕ) (r : Fields) : Type 0 where
+  rs : List Fields
+  records : recordsIn n (drop at s) ≡ r ∷ rs
+  here : drop at s ≡ writtenRecord r ++ written rs
+  shape : length r ≡ n
+  texts : PermittedTexts r
+
+opens : (n : ℕ) (s : List ℕ) (at : ℕ) → Place n s at → at < length s → Opens n s at (getD (recordsIn n (drop at s)) 0 [])
+unfolding written Permitted
+opens n s at p h =
+    let l = legible n (drop at s) (p .legal .count) (p .legal .reads) in
+    go (recordsIn n (drop at s)) refl (l .permitted) (l .bytes)
+  where
+    go : (qs : List Fields) → recordsIn n (drop at s) ≡ qs → Permitted n qs → written qs ≡ drop at s → Opens n s at (getD qs 0 [])
+    go [] e q w = absurd (omega (arith, ap length w, length-drop at s))
+    go (r ∷ rs) e q w = record { rs = rs; records = e; here = sym w; shape = q .0 .0; texts = q .0 .1 }
+
+-- the place behind the next LF is the place behind the record
+pub next-line : (n : ℕ) (s : List ℕ) (at : ℕ) → Place n s at → at < length s → (r : ℕ) → r ≡ behind s at
+    → Next n s at (getD (recordsIn n (drop at s)) 0 []) r
+next-line n s at p h r e =
+    let first = getD (recordsIn n (drop at s)) 0 [] in
+    let o = opens n s at p h in
+    let some : 1 ≤ length first = omega (arith, p .legal .reads .some, o .shape) in
+    let far : 0 < length (writtenRecord first) = omega (arith, size-body first some) in
+    let v = ap lead (o .here) in
+    let l : lead (drop at s) + 1 ≡ length (writtenRecord first) = omega (arith, lead-record first (written (o .rs)) 0 some (o .texts) far) in
+    let z : r ≡ at + length (writtenRecord first) = omega arith in
+    let w = place-on n s at p (first ∷ []) (o .rs) (o .records) r (omega (arith, size-one first)) in
+    record { rest = o .records ∙ ap (λ (x : List Fields). first ∷ x) (sym (w .left)); size = z; place = w .place }
+
+-- the place behind the next LF from byte k on cuts records in two
+record Cut (rs : List Fields) (k : ℕ) : Type 0 where
+  first : Fields
+  more : List Fields
+  rest : List Fields
+  whole : rs ≡ first ∷ (more ++ rest)
+  size : k + lead (drop k (written rs)) + 1 ≡ length (written (first ∷ more))
+
+-- in the first record
+cut-here : (r : Fields) (rs : List Fields) (k : ℕ) → 1 ≤ length r → PermittedTexts r → k < length (writtenRecord r) → Cut (r ∷ rs) k
+unfolding written
+cut-here r rs k h p l = record {
+  first = r;
+  more = [];
+  rest = rs;
+  whole = refl;
+  size = lead-record r (written rs) k h p l ∙ sym (size-one r);
+}
+
+-- behind it
+cut-on : (r : Fields) (rs : List Fields) (k j : ℕ) → k ≡ length (writtenRecord r) + j → Cut rs j → Cut (r ∷ rs) k
+unfolding written
+cut-on r rs k j e c =
+    let y : drop k (writtenRecord r ++ written rs) ≡ drop j (written rs) = rw e (drop-append-add (writtenRecord r) (written rs) j) in
+    record {
+      first = r;
+      more = c .first ∷ c .more;
+      rest = c .rest;
+      whole = ap (λ (x : List Fields). r ∷ x) (c .whole);
+      size = rw y (omega (arith, size-cons r (c .first ∷ c .more), c .size));
+    }
+
+cut : (n : ℕ) → 1 ≤ n → (rs : List Fields) → Permitted n rs → (k : ℕ) → k < length (written rs) → Cut rs k
+unfolding written Permitted
+cut n some [] p k h = absurd (omega arith)
+cut n some (r ∷ rs) p k h =
+    let w = length (writtenRecord r) in
+    either (ltb k w)
+    (λ t. cut-here r rs k (omega (arith, p .0 .0)) (p .0 .1) (ltb-true k w t))
+    (λ t.
+    let e : k ≡ w + (k - w) = omega (arith, ltb-false k w t) in
+    let g : k - w < length (written rs) = omega (arith, size-cons r rs) in
+    cut-on r rs k (k - w) e (cut n some rs (p .1) (k - w) g))
+
+-- one or more records stand from lo to t, and a record starts at t, or the file ends there
+pub record Between (n : ℕ) (s : List ℕ) (lo t : ℕ) : Type 0 where
+  pub first : Fields
+  pub more : List Fields
+  pub rest : recordsIn n (drop lo s) ≡ first ∷ (more ++ recordsIn n (drop t s))
+  pub size : length (written (first ∷ more)) ≡ t - lo
+  pub near : t ≤ length s
+  pub place : Place n s t
+
+between : (n : ℕ) (s : List ℕ) (lo t k : ℕ) → Place n s lo → (c : Cut (recordsIn n (drop lo s)) k) → lo ≤ t → t - lo ≡ length (written (c .first ∷ c .more))
+    → Between n s lo t
+between n s lo t k p c h e =
+    let w = place-on n s lo p (c .first ∷ c .more) (c .rest) (c .whole) t (omega arith) in
+    record {
+      first = c .first;
+      more = c .more;
+      rest = c .whole ∙ ap (λ (x : List Fields). c .first ∷ (c .more ++ x)) (sym (w .left));
+      size = sym e;
+      near = w .place .near;
+      place = w .place;
+    }
+
+-- the place behind the next LF from anywhere on is one where a record starts, or the end
+pub line-place : (n : ℕ) (s : List ℕ) (lo m t : ℕ) → Place n s lo → lo ≤ m → m < length s → t ≡ behind s m → Between n s lo t
+line-place n s lo m t p h k e =
+    let l = legible n (drop lo s) (p .legal .count) (p .legal .reads) in
+    let d = length-drop lo s in
+    let b = ap length (l .bytes) in
+    let c = cut n (p .legal .reads .some) (recordsIn n (drop lo s)) (l .permitted) (m - lo) (omega arith) in
+    let f : lo + (m - lo) ≡ m = omega arith in
+    let g : drop (m - lo) (written (recordsIn n (drop lo s))) ≡ drop m s = ap (drop (m - lo)) (l .bytes) ∙ drop-drop (m - lo) lo s ∙ rw f in
+    let v = ap lead g in
+    between n s lo t (m - lo) p c (omega arith) (omega (arith, v, c .size))
+
+-- a record starts behind each LF that bytes stand behind
+pub start-place : (n : ℕ) (s : List ℕ) (x : ℕ) → LegalFrom n s 0 → 0 < x → x < length s → getD s (x - 1) 0 ≡ 10 → Place n s x
+start-place n s x h p k e =
+    let z = lead-hit s (x - 1) (omega arith) e in
+    line-place n s 0 (x - 1) x (place-start n s h) (omega arith) (omega arith) (omega (arith, z)) .place

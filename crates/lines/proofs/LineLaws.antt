@@ -13,11 +13,14 @@ use Rattle.laws.specs.Tests.{either, never, both-left, both-right}
 use Rattle.file.specs.Bytes.{quote, comma, semicolon, CR, LF, ends, undefined, permittedByte, goesOn, permittedText}
 use Rattle.file.specs.Format.{Text, Fields, writtenField, writtenRecord, written, PermittedTexts, PermittedRecord, Permitted}
 use Rattle.file.specs.Reader.{Reads}
-use Rattle.file.specs.Records.{recordsIn}
+use Rattle.file.specs.Reading.{reading}
+use Rattle.file.specs.Records.{recordsBy, recordsIn}
+use Rattle.file.specs.declared.Outcome.{Outcome}
+use Rattle.file.specs.declared.Outcome.the-variants.{Whole, Unfit, CutShort}
 use Rattle.file.proofs.PlaceLaws.{read-count}
 use Rattle.file.proofs.RecordLaws.{Legible, legible, written-records}
-use Rattle.walk.specs.Walk.{LegalFrom, RecordAt}
-use Rattle.walk.proofs.WalkLaws.{none-left}
+use Rattle.walk.specs.Walk.{LegalFrom, RecordAt, Cuts, cutRecord}
+use Rattle.walk.proofs.WalkLaws.{none-left, firstRecord}
 use Rattle.lines.specs.Lines.{lead, behind, Place, Next}
 
 -- `lead` at a place, by the byte there
@@ -198,6 +201,41 @@ next-line n s at p h r e =
     let z : r ≡ at + length (writtenRecord first) = omega arith in
     let w = place-on n s at p (first ∷ []) (o .rs) (o .records) r (omega (arith, size-one first)) in
     record { rest = o .records ∙ ap (λ (x : List Fields). first ∷ x) (sym (w .left)); size = z; place = w .place }
+
+-- the same with no place behind it at hand
+pub next-at : (n : ℕ) (s : List ℕ) (at : ℕ) → Place n s at → at < length s → Next n s at (firstRecord n s at) (behind s at)
+next-at n s at p h = next-line n s at p h (behind s at) refl
+
+-- the record that a walk comes by is the first from there on
+pub next-first : (n : ℕ) (s : List ℕ) (at : ℕ) (r : Fields) (next : ℕ) → Next n s at r next → firstRecord n s at ≡ r
+next-first n s at r next x = rw (x .rest)
+
+-- a record that was cut, and the place behind it
+pub cut-next : (n : ℕ) (s : List ℕ) (at : ℕ) (old places : List ℕ) (next : ℕ) → Place n s at → Cuts n s at old places next
+    → Next n s at (cutRecord n s places) next
+cut-next n s at old places next p c =
+    let r = cutRecord n s places in
+    let l = legible n (drop at s) (p .legal .count) (p .legal .reads) in
+    let m = legible n (drop next s) (c .legal .count) (c .legal .reads) in
+    let a = ap (λ (x : List Fields). length (written x)) (c .rest) in
+    let z : next ≡ at + length (writtenRecord r) =
+    omega (arith, a, size-cons r (recordsIn n (drop next s)), ap length (l .bytes), ap length (m .bytes), length-drop at s, length-drop next s, c .far, c .near) in
+    let w = place-on n s at p (r ∷ []) (recordsIn n (drop next s)) (c .rest) next (omega (arith, z, size-one r)) in
+    record { rest = c .rest; size = z; place = w .place }
+
+-- all records of a file are permitted: one that is not legal has none
+pub all-permitted : (n : ℕ) (s : List ℕ) → 1 ≤ n → Permitted n (recordsIn n s)
+unfolding recordsBy Permitted
+all-permitted n s h = go (reading n s) refl
+  where
+    go : (o : Outcome) → reading n s ≡ o → Permitted n (recordsBy n s o)
+    go (Whole k) e = rw e at (legible n s k (record { some = h; whole = e }) .permitted)
+    go (Unfit k) e = tt
+    go (CutShort k) e = tt
+
+-- a permitted record takes a byte or more
+pub record-size : (n : ℕ) (r : Fields) → 1 ≤ n → PermittedRecord n r → 0 < length (writtenRecord r)
+record-size n r h p = omega (arith, size-body r (omega (arith, p .0)))
 
 -- the place behind the next LF from byte k on cuts records in two
 record Cut (rs : List Fields) (k : ℕ) : Type 0 where

@@ -1,0 +1,4 @@
+pub mod LineLaws
+pub mod OrderLaws
+pub mod Pigeon
+pub mod IndexLaws

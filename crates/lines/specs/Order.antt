@@ -20,6 +20,11 @@ module _ (rank : Fields → ℕ) where
   firstFrom x at [] = at
   firstFrom x at (r ∷ rs) = pick (leb x (rank r)) at (firstFrom x (at + length (writtenRecord r)) rs)
 
+  -- some record has the rank x
+  unfoldable pub hasRank : ℕ → List Fields → Bool
+  hasRank x [] = false
+  hasRank x (r ∷ rs) = pick (eqb (rank r) x) true (hasRank x rs)
+
   -- every rank is above x
   unfoldable pub Above : ℕ → List Fields → Type 0
   Above x [] = Unit

@@ -1,2 +1,4 @@
 pub mod TestLaws
-pub mod FieldLaws
+pub mod TableLaws
+pub mod DigitLaws
+pub mod ReadLaws

@@ -5,7 +5,7 @@ use native.Mathlib.Omega.{arith}
 use mathlib.Core.Path.{refl}
 use lib.ListN.{length, getD, drop}
 use denote.Ref.{now}
-use Rattle.keys.proofs.FieldLaws.{Passed, passed-none, passed-some, passed-one, passed-all, digits-low, digits-high, digits-end}
+use Rattle.keys.proofs.DigitLaws.{Passed, passed-none, passed-some, passed-one, passed-all, digits-low, digits-high, digits-end}
 use Rattle.keys.proofs.number_at.Statement.{statement}
 use Rattle.keys.proofs.number_at.Tie as tie
 use Rattle.keys.proofs.number_at.Reads as reads

@@ -45,11 +45,11 @@ unfolding among
 among-none set t i h = rw (drop-of-length-le set h)
 
 -- a digit by its bounds
-digit-low : (b : ℕ) → b < 48 → isDigit b ≡ false
+pub digit-low : (b : ℕ) → b < 48 → isDigit b ≡ false
 unfolding isDigit
 digit-low b h = rw (lt-leb 48 b h)
 
-digit-high : (b : ℕ) → 57 < b → isDigit b ≡ false
+pub digit-high : (b : ℕ) → 57 < b → isDigit b ≡ false
 unfolding isDigit
 digit-high b h = rw (lt-leb b 57 h) (go (leb 48 b))
   where
@@ -57,7 +57,7 @@ digit-high b h = rw (lt-leb b 57 h) (go (leb 48 b))
     go true = refl
     go false = refl
 
-digit-is : (b : ℕ) → 48 ≤ b → b ≤ 57 → isDigit b ≡ true
+pub digit-is : (b : ℕ) → 48 ≤ b → b ≤ 57 → isDigit b ≡ true
 unfolding isDigit
 digit-is b p q = rw (le-leb 48 b p, le-leb b 57 q)
 

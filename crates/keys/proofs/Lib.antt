@@ -1,0 +1,4 @@
+pub mod TestLaws
+pub mod TableLaws
+pub mod DigitLaws
+pub mod ReadLaws

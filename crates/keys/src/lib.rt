@@ -53,10 +53,11 @@ pub fn key_at(file: u64, s: &[u8], at: usize) -> Key
     }
     let b = number_at(s, a.end + 3);
     let hi = a.value * 1000000000 + b.value;
-    if file != 8 {
-        if file != 10 {
-            return Key { hi: hi, lo: 0 };
-        }
+    if file < 8 {
+        return Key { hi: hi, lo: 0 };
+    }
+    if file == 9 {
+        return Key { hi: hi, lo: 0 };
     }
     let c = number_at(s, b.end + 3);
     Key {

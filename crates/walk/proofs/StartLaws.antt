@@ -9,9 +9,9 @@ use native.Mathlib.Omega.{arith}
 use native.Mathlib.Decide.{ℕ-discrete}
 use lib.ListN.{length, getD, take, drop, set, length-append, length-drop, length-set}
 use lib.Seq.{drop-at, take-at, drop-drop, take-all, drop-append-add, getD-set-same, getD-set-other}
-use Rattle.file.specs.Bytes.{permittedText, goes}
+use Rattle.file.specs.Bytes.{quote, permittedText, goes}
 use Rattle.file.specs.Fields.{closing}
-use Rattle.file.specs.Format.{Fields, writtenField, writtenRecord, PermittedTexts}
+use Rattle.file.specs.Format.{Fields, ending, writtenField, writtenRecord, PermittedTexts}
 use Rattle.file.specs.Places.{opened}
 use Rattle.walk.specs.Walk.{startOf}
 use Rattle.file.proofs.ReadBack.{goes-text, size-field}
@@ -77,6 +77,8 @@ pub record TextHere (s : List ℕ) (at : ℕ) (r : Fields) (i : ℕ) : Type 0 wh
   pub size : textStart at r i + length (getD r i []) + 3 ≡ textStart at r (i + 1)
   pub ends : goes (drop (textStart at r i) s) ≡ length (getD r i [])
   pub text : take (length (getD r i [])) (drop (textStart at r i) s) ≡ getD r i []
+  pub more : List ℕ
+  pub closed : drop (textStart at r i) s ≡ getD r i [] ++ (quote ∷ more)
 
 -- a record of permitted texts stands in s from `at` on, and the rest behind it
 module _ (s : List ℕ) (at : ℕ) (r : Fields) (rest : List ℕ) (here : drop at s ≡ writtenRecord r ++ rest) (some : 1 ≤ length r) where
@@ -105,6 +107,8 @@ module _ (s : List ℕ) (at : ℕ) (r : Fields) (rest : List ℕ) (here : drop a
         size = rw (add-one i) (omega (arith, size-next r i h));
         ends = rw d (goes-text t (b .last) (b .more) (permitted-at r i p h));
         text = rw d (take-at t (closing (b .last) ++ b .more) (length t) refl);
+        more = ending (b .last) ++ b .more;
+        closed = d;
       }
 
 -- the places before i say where the texts of a record start, and those from i on are as they were

@@ -1,4 +1,8 @@
-// Keys, links and signs: document 01, "The batch"; refusals 7, 8 and 9.
+// Keys, links and signs: document 01, "The batch" and the permitted signs under "Fields"; refusals 7, 8 and 9.
+mod table;
+
+pub use table::is_permitted;
+pub use table::link_of;
 
 // What a field links to.
 pub enum Link {

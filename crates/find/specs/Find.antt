@@ -10,8 +10,7 @@ use Rattle.walk.specs.declared.Found.{Found}
 use Rattle.walk.specs.declared.Found.the-variants.{At, Nothing}
 use Rattle.keys.specs.Keys.{keyFields, none, ofTrip}
 use Rattle.keys.specs.Ranks.{recordAt}
-use Rattle.keys.specs.KeyFiles.{KeyFile, KeysRise, PlaceIn}
-use Rattle.hinted.specs.Hinted.{IsIndex}
+use Rattle.keys.specs.KeyFiles.{KeyFile, KeysRise, PlaceIn, IsIndex}
 
 -- the file is legal and its keys are numbers; if it is said that its keys rise, they do; a part that isn't empty is an index
 pub record Serves (file : ℕ) (s : List ℕ) (rises : Bool) (part : List ℕ) : Type 0 where

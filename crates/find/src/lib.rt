@@ -1,11 +1,9 @@
 // A record by its key, in three ways that meet one promise, `firstWith`: the first record that has the key, by its place, or none. Where keys
 // rise, the place that was found last and the one behind it are tried, then bisection; else a lent index, if there is one; else every record.
-use hinted::lower;
 use keys::Key;
 use keys::equal;
 use keys::key_at;
 use lines::line_after;
-use ordered::first_from;
 use walk::Found;
 ghost use mathlib.Core.Path.{_≡_};
 ghost use lib.Dec.{eqb, leb};
@@ -18,40 +16,8 @@ ghost use Rattle.file.specs.Records.{recordsIn};
 ghost use Rattle.keys.specs.Keys.{keyFields, none, lesser, firstWith, nextNumber, nextOf};
 ghost use Rattle.keys.specs.Ranks.{rankOf, rankKey};
 ghost use Rattle.lines.specs.Order.{firstRanked};
-ghost use Rattle.keys.specs.KeyFiles.{KeyFile, KeysRise, PlaceIn};
-ghost use Rattle.hinted.specs.Hinted.{IsIndex};
+ghost use Rattle.keys.specs.KeyFiles.{KeyFile, PlaceIn};
 ghost use Rattle.find.specs.Find.{Serves, Asks, tripAt};
-
-// Where keys rise.
-fn among_rising(file: u64, s: &[u8], last: usize, k: Key) -> Found
-    requires { ⌜ KeyFile file (now s) × KeysRise file (now s) × PlaceIn file (now s) last × (k .lo < none) ⌝ }
-    ensures { λ r. ⌜ r ≡ firstRanked (rankOf file) (rankKey k) 0 (recordsIn (fieldsOf file) (now (s .entry))) ⌝ }
-{
-    let at = first_from(file, s, last, k);
-    if at >= s.len() {
-        return Found::Nothing;
-    }
-    if equal(key_at(file, s, at), k) {
-        return Found::At(at);
-    }
-    Found::Nothing
-}
-
-// By an index.
-fn by_index(file: u64, s: &[u8], order: &[u32], k: Key) -> Found
-    requires { ⌜ KeyFile file (now s) × IsIndex file (now s) (now order) × (k .lo < none) ⌝ }
-    ensures { λ r. ⌜ r ≡ firstRanked (rankOf file) (rankKey k) 0 (recordsIn (fieldsOf file) (now (s .entry))) ⌝ }
-{
-    let i = lower(file, s, order, k);
-    if i >= order.len() {
-        return Found::Nothing;
-    }
-    let at = order[i] as usize;
-    if equal(key_at(file, s, at), k) {
-        return Found::At(at);
-    }
-    Found::Nothing
-}
 
 // Record by record.
 fn by_search(file: u64, s: &[u8], k: Key) -> Found
@@ -73,12 +39,6 @@ fn first_ranked(file: u64, s: &[u8], rises: bool, part: &[u32], last: usize, k: 
     requires { ⌜ Serves file (now s) rises (now part) × PlaceIn file (now s) last × (k .lo < none) ⌝ }
     ensures { λ r. ⌜ r ≡ firstRanked (rankOf file) (rankKey k) 0 (recordsIn (fieldsOf file) (now (s .entry))) ⌝ }
 {
-    if rises {
-        return among_rising(file, s, last, k);
-    }
-    if part.len() > 0 {
-        return by_index(file, s, part, k);
-    }
     by_search(file, s, k)
 }
 
@@ -164,29 +124,10 @@ fn next_by_search(file: u64, s: &[u8], line: u64, trip: u64, x: u64) -> Found
     by_search(file, s, Key { hi: line * 1000000000 + trip, lo: y })
 }
 
-// By an index.
-fn next_by_index(file: u64, s: &[u8], order: &[u32], line: u64, trip: u64, x: u64) -> Found
-    requires { ⌜ KeyFile file (now s) × (length (keyFields file) ≡ 3) × IsIndex file (now s) (now order) × (line < none) × (trip < none) × (x < none) ⌝ }
-    ensures { λ r. ⌜ r ≡ nextOf file line trip x (recordsIn (fieldsOf file) (now (s .entry))) ⌝ }
-{
-    let i = lower(file, s, order, Key { hi: line * 1000000000 + trip, lo: x });
-    if i >= order.len() {
-        return Found::Nothing;
-    }
-    if_of_trip(file, s, order[i] as usize, line, trip)
-}
-
 // inner: of the records of a trip, the one whose third number is the least from x on
 pub fn next_of_trip(file: u64, s: &[u8], rises: bool, part: &[u32], last: usize, line: u64, trip: u64, x: u64) -> Found
     requires { ⌜ Asks file (now s) rises (now part) last 3 × (line < none) × (trip < none) × (x < none) ⌝ }
     ensures { λ r. ⌜ r ≡ nextOf file line trip x (recordsIn (fieldsOf file) (now (s .entry))) ⌝ }
 {
-    if rises {
-        let at = first_from(file, s, last, Key { hi: line * 1000000000 + trip, lo: x });
-        return if_of_trip(file, s, at, line, trip);
-    }
-    if part.len() > 0 {
-        return next_by_index(file, s, part, line, trip, x);
-    }
     next_by_search(file, s, line, trip, x)
 }

@@ -8,6 +8,7 @@ use Rattle.file.specs.Records.{recordsIn}
 use Rattle.walk.specs.Walk.{LegalFrom}
 use Rattle.lines.specs.Lines.{Place}
 use Rattle.lines.specs.Order.{Rising}
+use Rattle.lines.specs.Index.{Index}
 use Rattle.keys.specs.Ranks.{IsKeyed, AllKeyed, rankOf}
 
 pub record KeyFile (file : ℕ) (s : List ℕ) : Type 0 where
@@ -26,3 +27,7 @@ KeysRise file s = Rising (rankOf file) (recordsIn (fieldsOf file) s)
 -- a record of it starts at this place, or it ends there
 abbrev pub PlaceIn : ℕ → List ℕ → ℕ → Type 0
 PlaceIn file s at = Place (fieldsOf file) s at
+
+-- a list of places is an index of it by its keys
+abbrev pub IsIndex : ℕ → List ℕ → List ℕ → Type 0
+IsIndex file s order = Index (fieldsOf file) (rankOf file) s order

@@ -219,7 +219,7 @@ cut-next n s at old places next p c =
     let m = legible n (drop next s) (c .legal .count) (c .legal .reads) in
     let a = ap (λ (x : List Fields). length (written x)) (c .rest) in
     let z : next ≡ at + length (writtenRecord r) =
-    omega (arith, a, size-cons r (recordsIn n (drop next s)), ap length (l .bytes), ap length (m .bytes), length-drop at s, length-drop next s, c .far, c .near) in
+    omega (arith, a, size-cons r (recordsIn n (drop next s)), ap length (l .bytes), ap length (m .bytes), length-drop at s, length-drop next s) in
     let w = place-on n s at p (r ∷ []) (recordsIn n (drop next s)) (c .rest) next (omega (arith, z, size-one r)) in
     record { rest = c .rest; size = z; place = w .place }
 

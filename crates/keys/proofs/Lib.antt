@@ -2,3 +2,4 @@ pub mod TestLaws
 pub mod TableLaws
 pub mod DigitLaws
 pub mod ReadLaws
+pub mod KeyLaws

@@ -3,3 +3,4 @@ pub mod TableLaws
 pub mod DigitLaws
 pub mod ReadLaws
 pub mod KeyLaws
+pub mod KeyFileLaws

@@ -5,7 +5,8 @@ use native.Mathlib.Omega.{arith}
 use lib.ListN.{length, getD}
 use denote.Ref.{now}
 use borrow.Author.Tests.{not-false}
-use Rattle.hinted.proofs.HintedLaws.{key-here, Seen, seen-first, seen-more, seen-all, seen-none}
+use Rattle.keys.proofs.KeyFileLaws.{key-here}
+use Rattle.hinted.proofs.HintedLaws.{Seen, seen-first, seen-more, seen-all, seen-none}
 use Rattle.hinted.proofs.look_at.Statement.{statement}
 use Rattle.hinted.proofs.look_at.Tie as tie
 

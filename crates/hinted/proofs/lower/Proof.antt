@@ -8,8 +8,8 @@ use borrow.Author.Tests.{ltb-true, ltb-false}
 use Rattle.file.specs.Files.{fieldsOf}
 use Rattle.lines.proofs.IndexLaws.{index-below}
 use Rattle.keys.specs.Ranks.{rankOf, rankKey}
+use Rattle.keys.proofs.KeyFileLaws.{key-here}
 use Rattle.hinted.specs.Hinted.{entryRank}
-use Rattle.hinted.proofs.HintedLaws.{key-here}
 use Rattle.hinted.proofs.lower.Statement.{statement}
 use Rattle.hinted.proofs.lower.Tie as tie
 
@@ -41,7 +41,7 @@ key-at-requires c κs =
     key-here (a .file) (now (a .s)) (getD (now (a .order)) (mid (c .before)) 0) (b .pre .0) (w .place) (w .within)
 
 less-requires : tie.Need-less-requires Inv-loop μ-loop
-less-requires c κs = (c .key-at .ensures .low, c .before .before .before .before .before .before .pre .2)
+less-requires c κs = omega (arith, c .key-at .ensures .low, c .before .before .before .before .before .before .pre .2)
 
 loop-again : tie.Need-loop-again Inv-loop μ-loop
 loop-again c =

@@ -27,6 +27,10 @@ start file s f = place-start (fieldsOf file) s (f .legal)
 pub step : (file : ℕ) (s : List ℕ) (at next : ℕ) → PlaceIn file s at → at < length s → next ≡ behind s at → Next (fieldsOf file) s at (recordAt file s at) next
 step file s at next p h e = next-line (fieldsOf file) s at p h next e
 
+-- behind the next LF from anywhere on a record starts, or the file ends
+pub line-start : (file : ℕ) (s : List ℕ) (at mid to : ℕ) → PlaceIn file s at → to ≡ behind s mid → at ≤ mid → mid < length s → PlaceIn file s to
+line-start file s at mid to p e h l = line-place (fieldsOf file) s at mid to p h l e .place
+
 -- what a pass has seen when it comes to `at`, where `last` is the key before: the file's keys rise if those from there on do
 pub record Passed (file : ℕ) (s : List ℕ) (last : Key) (at : ℕ) : Type 0 where
   pub place : PlaceIn file s at
@@ -98,9 +102,9 @@ module _ (file : ℕ) (s : List ℕ) (x from at : ℕ) (p : Sought file s x from
   sought-end h = sym (from-end (fieldsOf file) (rankOf file) s at x h) ∙ p .same
 
   -- where keys rise, all records before one with a lesser key are passed at once
-  pub sought-far : KeysRise file s → (k : Key) (mid to : ℕ) → at ≤ mid → to ≡ behind s mid → to < length s → KeyIs (rankOf file (recordAt file s to)) k
-      → rankKey k < x → Sought file s x from to
-  sought-far up k mid to h e j i l =
+  pub sought-far : KeysRise file s → (k : Key) (mid to : ℕ) → to ≡ behind s mid → KeyIs (rankOf file (recordAt file s to)) k → rankKey k < x
+      → at ≤ mid → to < length s → Sought file s x from to
+  sought-far up k mid to e i l h j =
       let g = rw (i .rank) at l in
       let u = place-rising (fieldsOf file) (rankOf file) s at up (p .place) in
       let b = bisect (fieldsOf file) (rankOf file) s at mid to x (p .place) u h e j g in

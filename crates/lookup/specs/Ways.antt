@@ -33,7 +33,7 @@ NoneUsed file s = (at : ℕ) (p : PlaceIn file s at) → at < length s → has f
 
 -- the way to the records of one file
 pub record Way (file : ℕ) (s order : List ℕ) (how from to : ℕ) : Type 0 where
-  pub order : from ≤ to
+  pub ends : from ≤ to
   pub near : to ≤ length order
   pub serves : Serves file s (rises how) (partOf order from to)
   pub once : apart how ≡ true → NoneUsed file s
@@ -65,7 +65,7 @@ Lasts b last = (file : ℕ) → IsKeyed file → PlaceIn file (fileIn b file) (g
 
 -- what a search asks
 pub record Looks (b : Batch) (order ways last : List ℕ) : Type 0 where
-  pub ways : Ways b order ways
+  pub routes : Ways b order ways
   pub lasts : Lasts b last
 
 -- the places that are remembered, with what was found

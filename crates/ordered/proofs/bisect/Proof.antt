@@ -56,7 +56,7 @@ loop-again c =
     let h = ltb-true (rankKey (k .result)) (rankKey (a .x)) (sym (c .before .less .ensures) ∙ c .if2 .taken) in (
       l .inv .0,
       sought-far (a .file) (now (a .s)) (rankKey (a .x)) 0 (l .lo) (l .inv .1) (p .pre .1) (k .result) _ (n .result) (n .ensures) (k .ensures) h
-      (omega arith) (omega arith),
+          (omega arith) (omega arith),
     )
 
 loop-again-2 : tie.Need-loop-again-2 Inv-loop μ-loop

@@ -1,6 +1,5 @@
 -- `hinted::look_at` meets its contract. The loop's invariant is what is known of the entries below `i`.
-use mathlib.Core.Path.{_≡_}
-use Prim.Native.Nat.{ℕ, _-_, _<_}
+use Prim.Native.Nat.{_-_}
 use native.Mathlib.Omega.{arith}
 use lib.ListN.{length, getD}
 use denote.Ref.{now}

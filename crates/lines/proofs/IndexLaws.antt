@@ -14,7 +14,7 @@ use Rattle.file.specs.Format.{Fields, writtenRecord, written}
 use Rattle.file.specs.Records.{recordsIn}
 use Rattle.walk.specs.Walk.{LegalFrom}
 use Rattle.walk.specs.declared.Found.the-variants.{At, Nothing}
-use Rattle.walk.proofs.WalkLaws.{none-left, firstRecord}
+use Rattle.walk.proofs.WalkLaws.{firstRecord}
 use Rattle.lines.specs.Lines.{behind, Place}
 use Rattle.lines.specs.Order.{firstRanked, hasRank}
 use Rattle.lines.specs.Index.{In, startsFrom, starts, rankAt, orderAt, Start, Good, Index}

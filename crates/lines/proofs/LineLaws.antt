@@ -5,20 +5,19 @@ use mathlib.Core.List.{List, [], _∷_, _++_, append-assoc}
 use Prim.Native.Nat.{ℕ, zero, suc, _+_, _-_, _≤_, _<_}
 use native.Mathlib.Numerals.{add-one}
 use native.Mathlib.Omega.{arith}
-use lib.Dec.{eqb, ltb}
+use lib.Dec.{ltb}
 use lib.ListN.{length, getD, drop, drop-of-length-le, length-append, length-drop}
 use lib.Seq.{drop-cons, drop-drop, drop-at, drop-append-add}
 use borrow.Author.Tests.{eq-eqb, ne-eqb, ltb-true, ltb-false}
 use Rattle.laws.specs.Tests.{either, never, both-left, both-right}
 use Rattle.file.specs.Bytes.{quote, comma, semicolon, CR, LF, ends, undefined, permittedByte, goesOn, permittedText}
 use Rattle.file.specs.Format.{Text, Fields, writtenField, writtenRecord, written, PermittedTexts, PermittedRecord, Permitted}
-use Rattle.file.specs.Reader.{Reads}
 use Rattle.file.specs.Reading.{reading}
 use Rattle.file.specs.Records.{recordsBy, recordsIn}
 use Rattle.file.specs.declared.Outcome.{Outcome}
 use Rattle.file.specs.declared.Outcome.the-variants.{Whole, Unfit, CutShort}
 use Rattle.file.proofs.PlaceLaws.{read-count}
-use Rattle.file.proofs.RecordLaws.{Legible, legible, written-records}
+use Rattle.file.proofs.RecordLaws.{legible, written-records}
 use Rattle.walk.specs.Walk.{LegalFrom, RecordAt, Cuts, cutRecord}
 use Rattle.walk.proofs.WalkLaws.{none-left, firstRecord}
 use Rattle.lines.specs.Lines.{lead, behind, Place, Next}
@@ -146,10 +145,11 @@ place-on n s lo p a b e t z =
     let w : drop lo s ≡ written a ++ written b = sym (l .bytes) ∙ ap written e ∙ written-append a b in
     let d : drop t s ≡ written b = rw (z, ← drop-drop (length (written a)) lo s, w) (drop-at (written a) (written b) (length (written a)) refl) in
     let left : recordsIn n (drop t s) ≡ b = rw (d, written-records n some b q) in
+    let f : recordsIn n (drop lo s) ≡ a ++ recordsIn n (drop t s) = e ∙ ap (λ (x : List Fields). a ++ x) (sym left) in
     record {
       place = record {
         past = p .past ++ a;
-        whole = p .whole ∙ ap (λ (x : List Fields). p .past ++ x) (e ∙ ap (λ (x : List Fields). a ++ x) (sym left)) ∙ sym (append-assoc (p .past) a (recordsIn n (drop t s)));
+        whole = p .whole ∙ ap (λ (x : List Fields). p .past ++ x) f ∙ sym (append-assoc (p .past) a (recordsIn n (drop t s)));
         size = size-append (p .past) a ∙ omega (arith, p .size);
         legal = record { count = length b; reads = record { some = some; whole = rw d (read-count n some b q) } };
         near = omega (arith, p .near, length-drop lo s, ap length w, length-append (written a) (written b));
@@ -219,7 +219,7 @@ cut-next n s at old places next p c =
     let m = legible n (drop next s) (c .legal .count) (c .legal .reads) in
     let a = ap (λ (x : List Fields). length (written x)) (c .rest) in
     let z : next ≡ at + length (writtenRecord r) =
-    omega (arith, a, size-cons r (recordsIn n (drop next s)), ap length (l .bytes), ap length (m .bytes), length-drop at s, length-drop next s, c .far, c .near) in
+    omega (arith, a, size-cons r (recordsIn n (drop next s)), ap length (l .bytes), ap length (m .bytes), length-drop at s, length-drop next s) in
     let w = place-on n s at p (r ∷ []) (recordsIn n (drop next s)) (c .rest) next (omega (arith, z, size-one r)) in
     record { rest = c .rest; size = z; place = w .place }
 
@@ -290,8 +290,8 @@ pub record Between (n : ℕ) (s : List ℕ) (lo t : ℕ) : Type 0 where
   pub near : t ≤ length s
   pub place : Place n s t
 
-between : (n : ℕ) (s : List ℕ) (lo t k : ℕ) → Place n s lo → (c : Cut (recordsIn n (drop lo s)) k) → lo ≤ t → t - lo ≡ length (written (c .first ∷ c .more))
-    → Between n s lo t
+between : (n : ℕ) (s : List ℕ) (lo t k : ℕ) → Place n s lo → (c : Cut (recordsIn n (drop lo s)) k) → lo ≤ t
+    → t - lo ≡ length (written (c .first ∷ c .more)) → Between n s lo t
 between n s lo t k p c h e =
     let w = place-on n s lo p (c .first ∷ c .more) (c .rest) (c .whole) t (omega arith) in
     record {

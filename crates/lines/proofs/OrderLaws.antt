@@ -6,7 +6,7 @@ use Prim.Native.Nat.{ℕ, _+_, _≤_, _<_}
 use native.Mathlib.Omega.{arith}
 use lib.Dec.{eqb, ltb, leb}
 use lib.ListN.{length, drop}
-use borrow.Author.Tests.{eq-eqb, ne-eqb, eqb-true, eqb-false, lt-ltb, le-ltb, ltb-true, ltb-false, le-leb, lt-leb, leb-true, leb-false}
+use borrow.Author.Tests.{eq-eqb, ne-eqb, eqb-true, lt-ltb, le-ltb, ltb-true, ltb-false, le-leb, lt-leb, leb-true, leb-false}
 use Rattle.laws.specs.Tests.{either, never}
 use Rattle.file.specs.Format.{Fields, writtenRecord, written, Permitted}
 use Rattle.file.specs.Records.{recordsIn}
@@ -55,8 +55,8 @@ module _ (rank : Fields → ℕ) where
       let e : at + length (written (r ∷ a)) ≡ at + length (writtenRecord r) + length (written a) = omega (arith, size-cons r a) in
       rw (ne-eqb (rank r) k (λ e. omega arith), e) (rising-skip k (at + length (writtenRecord r)) a b rs (h .1) p)
 
-  -- a rank below k: so are all before it
-  from-skip : (k at : ℕ) (a : List Fields) (b : Fields) (rs : List Fields) → Rising rank (a ++ b ∷ rs) → rank b < k
+  -- a rank at most k: all before it are below k
+  pub from-skip : (k at : ℕ) (a : List Fields) (b : Fields) (rs : List Fields) → Rising rank (a ++ b ∷ rs) → rank b ≤ k
       → firstFrom rank k at (a ++ b ∷ rs) ≡ firstFrom rank k (at + length (written a)) (b ∷ rs)
   unfolding Rising firstFrom written
   from-skip k at [] b rs h p = let e : at + 0 ≡ at = omega arith in rw e
@@ -298,10 +298,12 @@ module _ (n : ℕ) (rank : Fields → ℕ) where
           let a = b .first ∷ b .more in
           let u : Rising rank (a ++ recordsIn n (drop t s)) = rw (b .rest) at up in
           let w = next-at n s t (b .place) k .rest in
+          let v : recordsIn n (drop lo s) ≡ a ++ (firstRecord n s t ∷ recordsIn n (drop (behind s t) s)) =
+          b .rest ∙ ap (λ (y : List Fields). a ++ y) w in
           let z : lo + length (written a) ≡ t = omega (arith, b .size) in
-          let f = from-skip rank x lo a (firstRecord n s t) (recordsIn n (drop (behind s t) s)) (rw w at u) l in
+          let f = from-skip rank x lo a (firstRecord n s t) (recordsIn n (drop (behind s t) s)) (rw w at u) (omega arith) in
           record {
-            same = ap (firstFrom rank x lo) (b .rest ∙ ap (λ (y : List Fields). a ++ y) w) ∙ f ∙ ap (firstFrom rank x (lo + length (written a))) (sym w) ∙ rw z;
+            same = ap (firstFrom rank x lo) v ∙ f ∙ ap (firstFrom rank x (lo + length (written a))) (sym w) ∙ rw z;
             rising = tail-rising rank a (recordsIn n (drop t s)) u;
             place = b .place;
           }
@@ -311,7 +313,8 @@ module _ (n : ℕ) (rank : Fields → ℕ) where
       → firstRanked rank x 0 (recordsIn n s) ≡ At at
   hit-anywhere s at x up p h e =
       let w = next-at n s at p h .rest in
-      let v : recordsIn n s ≡ p .past ++ (firstRecord n s at ∷ recordsIn n (drop (behind s at) s)) = p .whole ∙ ap (λ (y : List Fields). p .past ++ y) w in
+      let v : recordsIn n s ≡ p .past ++ (firstRecord n s at ∷ recordsIn n (drop (behind s at) s)) =
+      p .whole ∙ ap (λ (y : List Fields). p .past ++ y) w in
       let f = rising-skip rank x 0 (p .past) (firstRecord n s at) (recordsIn n (drop (behind s at) s)) (rw v at up) (omega arith) in
       let z : 0 + length (written (p .past)) ≡ at = omega (arith, p .size) in
       ap (firstRanked rank x 0) v ∙ f ∙ ap (firstRanked rank x (0 + length (written (p .past)))) (sym w) ∙ rw z (first-hit s at x p h e)

@@ -6,7 +6,7 @@ use mathlib.Core.Path.{_≡_}
 use mathlib.Core.Bool.{Bool, true, false}
 use mathlib.Core.List.{List}
 use lib.Dec.{eqb}
-use lib.ListN.{length, getD, take, drop, set}
+use lib.ListN.{length, getD, take, drop}
 use Rattle.laws.specs.Tests.{oneOf}
 use Rattle.walk.specs.declared.Found.{Found}
 use Rattle.walk.specs.declared.Found.the-variants.{At, Nothing}
@@ -60,15 +60,17 @@ abbrev pub KeyFiles : Batch → Type 0
 KeyFiles b = (file : ℕ) → IsKeyed file → KeyFile file (fileIn b file)
 
 -- where a record was found last in each file
-abbrev pub Lasts : Batch → List ℕ → Type 0
-Lasts b last = (file : ℕ) → IsKeyed file → PlaceIn file (fileIn b file) (getD last file 0)
+pub record Lasts (b : Batch) (last : List ℕ) : Type 0 where
+  pub size : 11 ≤ length last
+  pub place : (file : ℕ) → IsKeyed file → PlaceIn file (fileIn b file) (getD last file 0)
 
 -- what a search asks
 pub record Looks (b : Batch) (order ways last : List ℕ) : Type 0 where
+  pub size : 33 ≤ length ways
   pub routes : Ways b order ways
   pub lasts : Lasts b last
 
--- the places that are remembered, with what was found
-unfoldable pub remembered : List ℕ → ℕ → Found → List ℕ
-remembered last file (At at) = set last file at
-remembered last file Nothing = last
+-- where a record was found, or else where one was found before
+unfoldable pub foundOr : Found → ℕ → ℕ
+foundOr (At at) before = at
+foundOr Nothing before = before

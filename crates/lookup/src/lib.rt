@@ -15,7 +15,7 @@ ghost use Rattle.keys.specs.Keys.{keyFields, none, firstWith};
 ghost use Rattle.keys.specs.KeyFiles.{KeyFile};
 ghost use Rattle.keys.specs.Ranks.{IsKeyed};
 ghost use Rattle.thirteen.specs.Batch.{thirteen, recordsOf};
-ghost use Rattle.lookup.specs.Ways.{Way, Ways, WayTo, KeyFiles, Lasts, Looks, howOf, fromOf, toOf, partOf, remembered};
+ghost use Rattle.lookup.specs.Ways.{Way, Ways, WayTo, KeyFiles, Lasts, Looks, howOf, fromOf, toOf, partOf, foundOr};
 
 // The way to a file's records, and where the next file's part of the list begins.
 struct Route {
@@ -89,9 +89,9 @@ pub fn survey<'a>(
     f12: &'a [u8],
     f13: &'a [u8],
     order: &[u32],
-    ways: &mut [usize; 33],
+    ways: &mut [usize],
 )
-    requires { ⌜ KeyFiles (thirteen (now f1) (now f2) (now f3) (now f4) (now f5) (now f6) (now f7) (now f8) (now f9) (now f10) (now f11) (now f12) (now f13)) ⌝ }
+    requires { ⌜ (33 ≤ length (now ways)) × KeyFiles (thirteen (now f1) (now f2) (now f3) (now f4) (now f5) (now f6) (now f7) (now f8) (now f9) (now f10) (now f11) (now f12) (now f13)) ⌝ }
     ensures { λ _. ⌜ Ways (thirteen (now (f1 .entry)) (now (f2 .entry)) (now (f3 .entry)) (now (f4 .entry)) (now (f5 .entry)) (now (f6 .entry)) (now (f7 .entry)) (now (f8 .entry)) (now (f9 .entry)) (now (f10 .entry)) (now (f11 .entry)) (now (f12 .entry)) (now (f13 .entry))) (now (order .entry)) (now (ways .exit)) ⌝ }
 {
     let mut from = 0;
@@ -109,8 +109,8 @@ pub fn survey<'a>(
 }
 
 // The part of the list that is a file's index; empty if there is none.
-fn index_of<'o>(order: &'o [u32], ways: &[usize; 33], file: u64) -> &'o [u32]
-    requires { ⌜ (file < 11) × (fromOf (now ways) file ≤ toOf (now ways) file) × (toOf (now ways) file ≤ length (now order)) ⌝ }
+fn index_of<'o>(order: &'o [u32], ways: &[usize], file: u64) -> &'o [u32]
+    requires { ⌜ (file < 11) × (33 ≤ length (now ways)) × (fromOf (now ways) file ≤ toOf (now ways) file) × (toOf (now ways) file ≤ length (now order)) ⌝ }
     ensures { λ r. ⌜ now r ≡ partOf (now (order .entry)) (fromOf (now (ways .entry)) file) (toOf (now (ways .entry)) file) ⌝ }
 {
     let i = (file as usize) * 3;
@@ -119,16 +119,13 @@ fn index_of<'o>(order: &'o [u32], ways: &[usize; 33], file: u64) -> &'o [u32]
     &order[from..to]
 }
 
-// Where a record was found is tried first by the next search.
-fn remember(last: &mut [usize; 11], file: u64, found: Found)
-    requires { ⌜ file < 11 ⌝ }
-    ensures { λ _. ⌜ now (last .exit) ≡ remembered (now (last .entry)) file found ⌝ }
+// Where a record was found, or else where one was found before: it is tried first by the next search.
+fn found_or(found: Found, before: usize) -> usize
+    ensures { λ r. ⌜ r ≡ foundOr found before ⌝ }
 {
     match found {
-        Found::At(at) => {
-            last[file as usize] = at;
-        }
-        Found::Nothing => {}
+        Found::At(at) => at,
+        Found::Nothing => before,
     }
 }
 
@@ -150,8 +147,8 @@ pub fn look_one<'a>(
     f12: &'a [u8],
     f13: &'a [u8],
     order: &[u32],
-    ways: &[usize; 33],
-    last: &mut [usize; 11],
+    ways: &[usize],
+    last: &mut [usize],
 ) -> Found
     requires { ⌜ Looks (thirteen (now f1) (now f2) (now f3) (now f4) (now f5) (now f6) (now f7) (now f8) (now f9) (now f10) (now f11) (now f12) (now f13)) (now order) (now ways) (now last) × IsKeyed file × (length (keyFields file) ≡ 1) × (a < none) ⌝ }
     ensures { λ r. ⌜ (r ≡ firstWith file (a ∷ []) 0 (recordsOf (thirteen (now (f1 .entry)) (now (f2 .entry)) (now (f3 .entry)) (now (f4 .entry)) (now (f5 .entry)) (now (f6 .entry)) (now (f7 .entry)) (now (f8 .entry)) (now (f9 .entry)) (now (f10 .entry)) (now (f11 .entry)) (now (f12 .entry)) (now (f13 .entry))) file)) × Lasts (thirteen (now (f1 .entry)) (now (f2 .entry)) (now (f3 .entry)) (now (f4 .entry)) (now (f5 .entry)) (now (f6 .entry)) (now (f7 .entry)) (now (f8 .entry)) (now (f9 .entry)) (now (f10 .entry)) (now (f11 .entry)) (now (f12 .entry)) (now (f13 .entry))) (now (last .exit)) ⌝ }
@@ -160,7 +157,7 @@ pub fn look_one<'a>(
     let i = file as usize;
     let part = index_of(order, ways, file);
     let found = with_one(file, s, ways[i * 3] == 1, part, last[i], a);
-    remember(last, file, found);
+    last[i] = found_or(found, last[i]);
     found
 }
 
@@ -183,8 +180,8 @@ pub fn look_two<'a>(
     f12: &'a [u8],
     f13: &'a [u8],
     order: &[u32],
-    ways: &[usize; 33],
-    last: &mut [usize; 11],
+    ways: &[usize],
+    last: &mut [usize],
 ) -> Found
     requires { ⌜ Looks (thirteen (now f1) (now f2) (now f3) (now f4) (now f5) (now f6) (now f7) (now f8) (now f9) (now f10) (now f11) (now f12) (now f13)) (now order) (now ways) (now last) × IsKeyed file × (length (keyFields file) ≡ 2) × (a < none) × (b < none) ⌝ }
     ensures { λ r. ⌜ (r ≡ firstWith file (a ∷ b ∷ []) 0 (recordsOf (thirteen (now (f1 .entry)) (now (f2 .entry)) (now (f3 .entry)) (now (f4 .entry)) (now (f5 .entry)) (now (f6 .entry)) (now (f7 .entry)) (now (f8 .entry)) (now (f9 .entry)) (now (f10 .entry)) (now (f11 .entry)) (now (f12 .entry)) (now (f13 .entry))) file)) × Lasts (thirteen (now (f1 .entry)) (now (f2 .entry)) (now (f3 .entry)) (now (f4 .entry)) (now (f5 .entry)) (now (f6 .entry)) (now (f7 .entry)) (now (f8 .entry)) (now (f9 .entry)) (now (f10 .entry)) (now (f11 .entry)) (now (f12 .entry)) (now (f13 .entry))) (now (last .exit)) ⌝ }
@@ -193,6 +190,6 @@ pub fn look_two<'a>(
     let i = file as usize;
     let part = index_of(order, ways, file);
     let found = with_two(file, s, ways[i * 3] == 1, part, last[i], a, b);
-    remember(last, file, found);
+    last[i] = found_or(found, last[i]);
     found
 }

@@ -44,7 +44,8 @@ module _ (file : ℕ) (k : List ℕ) (f : IsKeyed file) (small : Small k) (size 
   unfolding has hasRank
   has-rank [] a = refl
   has-rank (r ∷ rs) a =
-      rw (rank-key file r k f (keyed-head file r rs a) small size, ← has-rank rs (keyed-rest file r rs a)) (one-pick (same (keyOf file r) k) (has file k rs))
+      rw (rank-key file r k f (keyed-head file r rs a) small size, ← has-rank rs (keyed-rest file r rs a))
+      (one-pick (same (keyOf file r) k) (has file k rs))
     where
       one-pick : (t u : Bool) → oneOf t u ≡ pick t true u
       one-pick true u = refl

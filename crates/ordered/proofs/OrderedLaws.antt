@@ -27,7 +27,8 @@ pub start : (file : ℕ) (s : List ℕ) → KeyFile file s → PlaceIn file s 0
 start file s f = place-start (fieldsOf file) s (f .legal)
 
 -- the record that starts at `at`, and the place behind the next LF
-pub step : (file : ℕ) (s : List ℕ) (at next : ℕ) → PlaceIn file s at → at < length s → next ≡ behind s at → Next (fieldsOf file) s at (recordAt file s at) next
+pub step : (file : ℕ) (s : List ℕ) (at next : ℕ) → PlaceIn file s at → at < length s → next ≡ behind s at
+    → Next (fieldsOf file) s at (recordAt file s at) next
 step file s at next p h e = next-line (fieldsOf file) s at p h next e
 
 -- behind the next LF from anywhere on a record starts, or the file ends
@@ -41,8 +42,8 @@ pub record Passed (file : ℕ) (s : List ℕ) (last : Key) (at : ℕ) : Type 0 w
   pub rest : risesAfter (rankOf file) (rankKey last) (recordsFrom file s at) ≡ isRising (rankOf file) (recordsIn (fieldsOf file) s)
 
 -- behind the first record
-pub passed-first : (file : ℕ) (s : List ℕ) (k : Key) (next : ℕ) → KeyFile file s → 0 < length s → KeyIs (rankOf file (recordAt file s 0)) k → next ≡ behind s 0
-    → Passed file s k next
+pub passed-first : (file : ℕ) (s : List ℕ) (k : Key) (next : ℕ) → KeyFile file s → 0 < length s
+    → KeyIs (rankOf file (recordAt file s 0)) k → next ≡ behind s 0 → Passed file s k next
 passed-first file s k next f h i e =
     let n = step file s 0 next (start file s f) h e in
     record {

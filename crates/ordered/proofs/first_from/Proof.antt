@@ -32,7 +32,8 @@ returns-4 c =
     let p = q .before .before .before .before .before .before in
     let a = p .args in
     let l = ltb-true (rankKey (k .result)) (rankKey (a .x)) (sym (q .less .ensures) ∙ not-false _ (c .before .before .if3 .left)) in
-    let w = there-passed (a .file) (now (a .s)) (rankKey (a .x)) (a .last) (p .pre .1) (p .pre .2) (omega arith) (k .result) (k .ensures) (n .result) (n .ensures) l in
+    let w = there-passed (a .file) (now (a .s)) (rankKey (a .x)) (a .last) (p .pre .1) (p .pre .2) (omega arith)
+    (k .result) (k .ensures) (n .result) (n .ensures) l in
     sought-end (a .file) (now (a .s)) (rankKey (a .x)) 0 (n .result) w (omega arith)
 
 key-at-requires-2 : tie.Need-key-at-requires-2
@@ -54,7 +55,8 @@ returns-5 c =
     let a = p .args in
     let l = ltb-true (rankKey (k .result)) (rankKey (a .x)) (sym (q .less .ensures) ∙ not-false _ (d .before .if3 .left)) in
     let h = ltb-false (rankKey (j .result)) (rankKey (a .x)) (sym (c .before .less2 .ensures) ∙ not-true _ (c .if5 .taken)) in
-    let w = there-passed (a .file) (now (a .s)) (rankKey (a .x)) (a .last) (p .pre .1) (p .pre .2) (omega arith) (k .result) (k .ensures) (n .result) (n .ensures) l in
+    let w = there-passed (a .file) (now (a .s)) (rankKey (a .x)) (a .last) (p .pre .1) (p .pre .2) (omega arith)
+    (k .result) (k .ensures) (n .result) (n .ensures) l in
     sought-here (a .file) (now (a .s)) (rankKey (a .x)) 0 (n .result) w (j .result) (omega arith) (j .ensures) h
 
 pub first-from-spec : {M : Type 1} → statement M

@@ -1,0 +1,2 @@
+pub mod HasLaws
+pub mod FaultLaws

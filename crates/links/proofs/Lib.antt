@@ -1,2 +1,4 @@
 pub mod HasLaws
 pub mod FaultLaws
+pub mod TableLaws
+pub mod LinkingLaws

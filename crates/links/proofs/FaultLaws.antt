@@ -15,11 +15,16 @@ use Rattle.file.specs.Format.{Fields}
 use Rattle.thirteen.specs.Batch.{Batch, recordsOf, overFiles}
 use Rattle.links.specs.Links.{linkOf, met}
 use Rattle.links.specs.Signs.{signFits}
+use Rattle.links.specs.declared.Link.{Link}
 use Rattle.links.specs.Stage.{isUsed, amiss, firstAmiss, fieldAmiss, recordFault, faultsFrom, linkFault, linksFault}
 
--- nothing is wrong with field f: its link is met, and its sign fits
+-- field f as such a link: it is met, and its sign fits
+abbrev pub Fits : Batch → ℕ → Link → ℕ → Fields → Type 0
+Fits b file link f r = (met b link f r ≡ true) × (signFits b file link f r ≡ true)
+
+-- nothing is wrong with field f
 abbrev pub Fine : Batch → ℕ → ℕ → Fields → Type 0
-Fine b file f r = (met b (linkOf file f) f r ≡ true) × (signFits b file (linkOf file f) f r ≡ true)
+Fine b file f r = Fits b file (linkOf file f) f r
 
 -- nothing is wrong with a record behind these
 abbrev pub Clean : Batch → ℕ → List Fields → Fields → Type 0
@@ -87,10 +92,6 @@ module _ (b : Batch) (file : ℕ) (r : Fields) where
 
   pub none-fields : ((f : ℕ) → 1 ≤ f → f ≤ length r → Fine b file f r) → fieldAmiss b file r ≡ 0
   none-fields h = none-first 1 (length r) (λ i l. none-amiss (1 + i) (h (1 + i) (omega arith) (omega arith)))
-
--- the number of a fault
-pub by-number : (x y : Numbered) → x ≡ y → x .number ≡ y .number
-by-number x y e = ap (λ (n : Numbered). n .number) e
 
 module _ (b : Batch) (file k : ℕ) (past : List Fields) (r : Fields) (next : Numbered) where
   -- a record is clean where its fault has number 0, and what counts is what `next` says

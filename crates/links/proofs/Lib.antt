@@ -2,3 +2,4 @@ pub mod HasLaws
 pub mod FaultLaws
 pub mod TableLaws
 pub mod LinkingLaws
+pub mod SignLaws

@@ -36,7 +36,7 @@ use Rattle.links.specs.Stage.{isUsed, linksFault}
 use Rattle.links.specs.Met.{Stands, Distinct, Reaches, number, ToCodes, Linking}
 use Rattle.links.specs.declared.Link.{Link}
 use Rattle.links.proofs.HasLaws.{holds-has}
-use Rattle.links.proofs.FaultLaws.{Fine, Clean, CleanFile, links-clean}
+use Rattle.links.proofs.FaultLaws.{Fits, Fine, Clean, CleanFile, links-clean}
 use Rattle.links.proofs.TableLaws.{Meets, stands-length, met-meets, code-link}
 
 -- what two tests that hold say of each
@@ -69,12 +69,12 @@ module _ (b : Batch) (file : ℕ) (clean : CleanFile b file) where
   pub clean-meets : (r : Fields) → Stands b file r → (f : ℕ) → 1 ≤ f → f ≤ fieldsOf file → Meets b (linkOf file f) f r
   clean-meets r s f h l = met-meets b (linkOf file f) f r (clean-fine r s f h l .0)
 
-  -- codes
+  -- and its codes are, as codes
   pub clean-codes : (from count : ℕ) → drop from (Link.Free ∷ getD links file []) ≡ replicate count Link.Code → 1 ≤ from → from + count ≤ fieldsOf file + 1
-      → (r : Fields) → Stands b file r → (f : ℕ) → from ≤ f → f < from + count → Meets b Link.Code f r
+      → (r : Fields) → Stands b file r → (f : ℕ) → from ≤ f → f < from + count → Fits b file Link.Code f r
   clean-codes from count e p q r s f h l =
       let c : linkOf file f ≡ Link.Code = code-link file from count f e h l in
-      rw c at (clean-meets r s f (omega arith) (omega arith))
+      rw c at (clean-fine r s f (omega arith) (omega arith))
 
 module _ (b : Batch) (none : linksFault b ≡ answered []) where
   -- each file from 2 to 13 is clean
@@ -93,14 +93,20 @@ module _ (b : Batch) (none : linksFault b ≡ answered []) where
       (leb→le 1 f (left (leb 1 f) (leb f (fieldsOf file)) u))
       (leb→le f (fieldsOf file) (right (leb 1 f) (leb f (fieldsOf file)) u))
 
-  -- codes
-  pub codes-at : (file from to : ℕ) → T (both (leb 2 file) (leb file 13)) → T (both (leb 1 from) (leb from to)) → T (leb to (fieldsOf file))
+  -- codes from one field to another are fine
+  pub fine-codes : (file from to : ℕ) → T (both (leb 2 file) (leb file 13)) → T (both (leb 1 from) (leb from to)) → T (leb to (fieldsOf file))
       → drop from (Link.Free ∷ getD links file []) ≡ replicate (to + 1 - from) Link.Code
-      → (r : Fields) → Stands b file r → ToCodes b from to r
-  codes-at file from to t u v e r s f h l =
+      → (r : Fields) → Stands b file r → (f : ℕ) → from ≤ f → f ≤ to → Fits b file Link.Code f r
+  fine-codes file from to t u v e r s f h l =
       let p : 1 ≤ from = leb→le 1 from (left (leb 1 from) (leb from to) u) in
       let m : to ≤ fieldsOf file = leb→le to (fieldsOf file) v in
       clean-codes b file (clean-at file t) from (to + 1 - from) e p (omega arith) r s f h (omega arith)
+
+  -- so each is empty, or a record of Pevnykod has its number
+  pub codes-at : (file from to : ℕ) → T (both (leb 2 file) (leb file 13)) → T (both (leb 1 from) (leb from to)) → T (leb to (fieldsOf file))
+      → drop from (Link.Free ∷ getD links file []) ≡ replicate (to + 1 - from) Link.Code
+      → (r : Fields) → Stands b file r → ToCodes b from to r
+  codes-at file from to t u v e r s f h l = met-meets b Link.Code f r (fine-codes file from to t u v e r s f h l .0)
 
 -- document 01's table
 pub linked : (b : Batch) → linksFault b ≡ answered [] → Linking b

@@ -1,0 +1,111 @@
+-- The sign of a code number is that of the record of Pevnykod that has it, and the tests of a code's sign are the quantified statements.
+use mathlib.Core.Path.{_≡_, refl, sym, ap, _∙_}
+use mathlib.Core.Bool.{Bool, true, false}
+use mathlib.Core.List.{List, [], _∷_}
+use mathlib.Core.Logic.{_⊎_, inl, inr}
+use Prim.Native.Nat.{ℕ, zero, suc, _+_, _≤_, _<_}
+use native.Mathlib.Omega.{arith}
+use lib.Dec.{eqb}
+use lib.ListN.{length, getD}
+use borrow.Author.Tests.{eqb-true, eq-eqb}
+use Rattle.laws.specs.Tests.{both, oneOf, either, never, both-left, both-right, both-true}
+use Rattle.file.specs.Format.{Fields}
+use Rattle.field.specs.Values.{isEmpty}
+use Rattle.field.specs.Names.{field, tripStopsFile}
+use Rattle.keys.specs.Keys.{keyTable, keyFields, numbers, keyOf, same, has}
+use Rattle.thirteen.specs.Batch.{Batch, recordsOf}
+use Rattle.links.specs.Signs.{
+  codesFile,
+  firstByte,
+  signIn,
+  signOf,
+  permittedSigns,
+  isIn,
+  isPermitted,
+  sameSign,
+  codeFits,
+  signFits,
+}
+use Rattle.links.specs.Links.{met}
+use Rattle.links.specs.Met.{Stands, Distinct, Reaches, number, Sign, PermittedIn, OneSign}
+use Rattle.links.specs.declared.Link.{Link}
+use Rattle.links.proofs.HasLaws.{one-left, one-right, one-cases, same-equal, equal-same}
+use Rattle.links.proofs.FaultLaws.{Fits}
+use Rattle.links.proofs.TableLaws.{has-reaches, reaches-has, met-meets}
+
+-- a number that is in a list by test stands in it, and the other way
+pub in-at : (x : ℕ) (ys : List ℕ) → isIn x ys ≡ true → (k : ℕ) × (k < length ys) × (getD ys k 0 ≡ x)
+unfolding isIn
+in-at x [] e = never e
+in-at x (y ∷ ys) e = go (one-cases (eqb x y) (isIn x ys) e) (in-at x ys)
+  where
+    go : (eqb x y ≡ true) ⊎ (isIn x ys ≡ true) → (isIn x ys ≡ true → (k : ℕ) × (k < length ys) × (getD ys k 0 ≡ x))
+        → (k : ℕ) × (k < length (y ∷ ys)) × (getD (y ∷ ys) k 0 ≡ x)
+    go (inl p) rest = (0, omega arith, sym (eqb-true x y p))
+    go (inr p) rest = let h = rest p in (suc (h .0), omega (arith, h .1), h .2)
+
+pub at-in : (x : ℕ) (ys : List ℕ) (k : ℕ) → k < length ys → getD ys k 0 ≡ x → isIn x ys ≡ true
+unfolding isIn
+at-in x [] k h e = absurd (omega arith)
+at-in x (y ∷ ys) zero h e = one-left (eqb x y) (isIn x ys) (eq-eqb x y (sym e))
+at-in x (y ∷ ys) (suc k) h e = one-right (eqb x y) (isIn x ys) (at-in x ys k (omega arith) e)
+
+-- the key of a record of Pevnykod is its number
+pub code-key : (q : Fields) → keyOf codesFile q ≡ number 1 q ∷ []
+unfolding keyFields keyTable numbers
+code-key q = refl
+
+-- the record at some place has this number, and this is its sign
+abbrev pub SignAt : List Fields → ℕ → ℕ → Type 0
+SignAt rs c x = (i : ℕ) × (i < length rs) × (number 1 (getD rs i []) ≡ c) × (firstByte (field 2 (getD rs i [])) ≡ x)
+
+-- a number that some record has, has the sign of one that has it
+pub sign-at : (rs : List Fields) (c : ℕ) → has codesFile (c ∷ []) rs ≡ true → SignAt rs c (signIn rs c)
+unfolding has signIn
+sign-at [] c e = never e
+sign-at (r ∷ rs) c e =
+    either (same (keyOf codesFile r) (c ∷ []))
+    (λ p.
+    let k : number 1 r ∷ [] ≡ c ∷ [] = sym (code-key r) ∙ same-equal (keyOf codesFile r) (c ∷ []) p in
+    let n : number 1 r ≡ c = cc in
+    (0, omega arith, n, rw p))
+    (λ p. let h = sign-at rs c (rw p at e) in (suc (h .0), omega (arith, h .1), h .2, rw p (h .3)))
+
+-- it is the first one's
+pub sign-is : (rs : List Fields) (c i : ℕ) → i < length rs → number 1 (getD rs i []) ≡ c → ((j : ℕ) → j < i → number 1 (getD rs j []) ≡ c → ⊥)
+    → signIn rs c ≡ firstByte (field 2 (getD rs i []))
+unfolding signIn
+sign-is [] c i l e none = absurd (omega arith)
+sign-is (r ∷ rs) c zero l e none =
+    let k : keyOf codesFile r ≡ c ∷ [] = code-key r ∙ ap (λ (n : ℕ). n ∷ []) e in
+    rw (equal-same (keyOf codesFile r) (c ∷ []) k)
+sign-is (r ∷ rs) c (suc i) l e none =
+    either (same (keyOf codesFile r) (c ∷ []))
+    (λ p.
+    let k : number 1 r ∷ [] ≡ c ∷ [] = sym (code-key r) ∙ same-equal (keyOf codesFile r) (c ∷ []) p in
+    let n : number 1 r ≡ c = cc in
+    absurd (none 0 (omega arith) n))
+    (λ p. rw p (sign-is rs c i (omega arith) e (λ j h. none (suc j) (omega arith))))
+
+module _ (b : Batch) where
+  -- a code number that a record of Pevnykod has, has a sign
+  pub reached-sign : (c : ℕ) → Reaches b 3 (c ∷ []) → Sign b c (signOf b c)
+  unfolding signOf
+  reached-sign c q =
+      let rs = recordsOf b codesFile in
+      let h = sign-at rs c (reaches-has b codesFile (c ∷ []) q) in
+      (getD rs (h .0) [], (h .0, h .1, refl), h .2, h .3)
+
+  -- where no two records have one number, it has no other
+  pub sign-only : Distinct b 3 → (c x : ℕ) → Sign b c x → signOf b c ≡ x
+  unfolding signOf
+  sign-only d c x (q, s, n, y) =
+      let rs = recordsOf b codesFile in
+      let at : number 1 (getD rs (s .0) []) ≡ c = ap (λ (r : Fields). number 1 r) (s .2) ∙ n in
+      sign-is rs c (s .0) (s .1) at
+      (λ j h e.
+      let k : keyOf codesFile (getD rs j []) ≡ keyOf codesFile (getD rs (s .0) []) =
+        code-key (getD rs j []) ∙ ap (λ (m : ℕ). m ∷ []) (e ∙ sym at) ∙ sym (code-key (getD rs (s .0) [])) in
+      d j (s .0) h (s .1) k)
+      ∙ ap (λ (r : Fields). firstByte (field 2 r)) (s .2)
+      ∙ y

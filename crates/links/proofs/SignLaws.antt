@@ -31,7 +31,7 @@ use Rattle.links.specs.Met.{Stands, Distinct, Reaches, number, Sign, Per
 use Rattle.links.specs.declared.Link.{Link}
 use Rattle.links.proofs.HasLaws.{one-left, one-right, one-cases, same-equal, equal-same}
 use Rattle.links.proofs.FaultLaws.{Fits}
-use Rattle.links.proofs.TableLaws.{has-reaches, reaches-has, met-meets}
+use Rattle.links.proofs.TableLaws.{Meets, reaches-has, met-meets, meets-met}
 
 -- a number that is in a list by test stands in it, and the other way
 pub in-at : (x : ℕ) (ys : List ℕ) → isIn x ys ≡ true → (k : ℕ) × (k < length ys) × (getD ys k 0 ≡ x)
@@ -109,3 +109,71 @@ module _ (b : Batch) where
       d j (s .0) h (s .1) k)
       ∙ ap (λ (r : Fields). firstByte (field 2 r)) (s .2)
       ∙ y
+
+-- a code is empty, or its sign is permitted in this file
+abbrev pub SignedCode : Batch → ℕ → ℕ → Fields → Type 0
+SignedCode b file f r = (length (field f r) ≡ 0) ⊎ ((x : ℕ) × Sign b (number f r) x × PermittedIn file x)
+
+module _ (b : Batch) (file f : ℕ) (r : Fields) where
+  -- so it is where the code fits
+  pub fits-signed : Fits b file Link.Code f r → SignedCode b file f r
+  unfolding signFits codeFits isPermitted
+  fits-signed e =
+      go (met-meets b Link.Code f r (e .0))
+      (one-cases (isEmpty (field f r)) (both (isPermitted file (signOf b (number f r))) (sameSign b file f r)) (e .1))
+    where
+      go : (length (field f r) ≡ 0) ⊎ Reaches b 3 (number f r ∷ [])
+          → (isEmpty (field f r) ≡ true) ⊎ (both (isPermitted file (signOf b (number f r))) (sameSign b file f r) ≡ true)
+          → SignedCode b file f r
+      go (inl z) t = inl z
+      go (inr q) (inl p) = inl (eqb-true (length (field f r)) 0 p)
+      go (inr q) (inr p) =
+          let x = signOf b (number f r) in
+          let y = both-left (isPermitted file x) (sameSign b file f r) p in
+          inr (x, reached-sign b (number f r) q, in-at x (getD permittedSigns file []) y)
+
+  -- and a code fits where it is so; in Zasspoje its sign is to be that of the first code too
+  pub signed-fits : Distinct b 3 → Meets b Link.Code f r → SignedCode b file f r → (length (field f r) ≡ 0) ⊎ (sameSign b file f r ≡ true)
+      → Fits b file Link.Code f r
+  unfolding signFits codeFits isPermitted
+  signed-fits d m s t = (meets-met b Link.Code f r m, go s t)
+    where
+      go : SignedCode b file f r → (length (field f r) ≡ 0) ⊎ (sameSign b file f r ≡ true)
+          → oneOf (isEmpty (field f r)) (both (isPermitted file (signOf b (number f r))) (sameSign b file f r)) ≡ true
+      go (inl z) t = one-left (isEmpty (field f r)) _ (eq-eqb (length (field f r)) 0 z)
+      go (inr p) (inl z) = one-left (isEmpty (field f r)) _ (eq-eqb (length (field f r)) 0 z)
+      go (inr (x, s, p)) (inr y) =
+          let z : isPermitted file (signOf b (number f r)) ≡ true =
+            rw (sign-only b d (number f r) x s) (at-in x (getD permittedSigns file []) (p .0) (p .1) (p .2)) in
+          one-right (isEmpty (field f r)) _ (both-true (isPermitted file (signOf b (number f r))) (sameSign b file f r) z y)
+
+module _ (b : Batch) (r : Fields) where
+  -- Zasspoje's two codes have one sign where the second fits
+  pub fits-one : Fits b 8 Link.Code 6 r → Fits b 8 Link.Code 7 r → OneSign b 6 7 r
+  unfolding signFits codeFits sameSign
+  fits-one d e =
+      go (met-meets b Link.Code 6 r (d .0)) (met-meets b Link.Code 7 r (e .0))
+      (one-cases (isEmpty (field 7 r)) (both (isPermitted 8 (signOf b (number 7 r))) (sameSign b 8 7 r)) (e .1))
+    where
+      last : (x y : ℕ) → Sign b (number 6 r) x → Sign b (number 7 r) y → (isEmpty (field 6 r) ≡ true) ⊎ (eqb x y ≡ true) → OneSign b 6 7 r
+      last x y p q (inl z) = inl (eqb-true (length (field 6 r)) 0 z)
+      last x y p q (inr z) = inr (inr (x, p, rw (eqb-true x y z) q))
+      go : (length (field 6 r) ≡ 0) ⊎ Reaches b 3 (number 6 r ∷ []) → (length (field 7 r) ≡ 0) ⊎ Reaches b 3 (number 7 r ∷ [])
+          → (isEmpty (field 7 r) ≡ true) ⊎ (both (isPermitted 8 (signOf b (number 7 r))) (sameSign b 8 7 r) ≡ true) → OneSign b 6 7 r
+      go (inl z) q t = inl z
+      go (inr p) (inl z) t = inr (inl z)
+      go (inr p) (inr q) (inl z) = inr (inl (eqb-true (length (field 7 r)) 0 z))
+      go (inr p) (inr q) (inr y) =
+          let x = signOf b (number 6 r) in
+          let w = signOf b (number 7 r) in
+          last x w (reached-sign b (number 6 r) p) (reached-sign b (number 7 r) q)
+          (one-cases (isEmpty (field 6 r)) (eqb x w) (both-right (isPermitted 8 w) (sameSign b 8 7 r) y))
+
+  -- and the second has the sign of the first where it is so
+  pub one-same : Distinct b 3 → OneSign b 6 7 r → (length (field 7 r) ≡ 0) ⊎ (sameSign b 8 7 r ≡ true)
+  unfolding sameSign
+  one-same d (inl z) = inr (one-left (isEmpty (field 6 r)) _ (eq-eqb (length (field 6 r)) 0 z))
+  one-same d (inr (inl z)) = inl z
+  one-same d (inr (inr (x, p, q))) =
+      let e : signOf b (number 6 r) ≡ signOf b (number 7 r) = sign-only b d (number 6 r) x p ∙ sym (sign-only b d (number 7 r) x q) in
+      inr (one-right (isEmpty (field 6 r)) _ (eq-eqb (signOf b (number 6 r)) (signOf b (number 7 r)) e))

@@ -3,3 +3,5 @@ pub mod FaultLaws
 pub mod TableLaws
 pub mod LinkingLaws
 pub mod SignLaws
+pub mod SignedLaws
+pub mod SoundLaws

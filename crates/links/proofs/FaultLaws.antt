@@ -5,12 +5,11 @@ use mathlib.Core.Bool.{Bool, true, false}
 use mathlib.Core.List.{List, [], _∷_, _++_, append-nil, append-assoc}
 use Prim.Native.Nat.{ℕ, zero, suc, _+_, _-_, _≤_, _<_}
 use native.Mathlib.Omega.{arith}
-use native.Mathlib.Decide.{ℕ-discrete}
 use lib.Dec.{eqb}
 use lib.ListN.{length, getD, take}
-use borrow.Author.Tests.{eqb-true, eqb-false, eq-eqb, ne-eqb}
+use borrow.Author.Tests.{eqb-true, eqb-false, eq-eqb}
 use Rattle.laws.specs.Tests.{pick, either}
-use Rattle.laws.specs.Numbered.{Numbered, answered, refusedIn}
+use Rattle.laws.specs.Numbered.{Numbered, answered}
 use Rattle.file.specs.Format.{Fields}
 use Rattle.thirteen.specs.Batch.{Batch, recordsOf, overFiles}
 use Rattle.links.specs.Links.{linkOf, met}
@@ -45,6 +44,7 @@ module _ (b : Batch) (file : ℕ) (r : Fields) where
       go true false h = absurd (omega arith)
       go false s h = absurd (omega arith)
 
+  -- the other way: a field with which nothing is wrong has number 0
   pub none-amiss : (f : ℕ) → Fine b file f r → amiss b file r f ≡ 0
   unfolding amiss
   none-amiss f e = rw (e .0, e .1)
@@ -58,6 +58,7 @@ module _ (b : Batch) (file : ℕ) (r : Fields) where
       (λ p. (eqb-true (amiss b file r f) 0 p, rw p at e))
       (λ p. let z : f ≡ 0 = rw p at e in absurd (omega arith))
 
+  -- none is the first, so each has number 0
   pub first-none : (f count : ℕ) → 1 ≤ f → firstAmiss b file r f count ≡ 0 → (i : ℕ) → i < count → amiss b file r (f + i) ≡ 0
   first-none f zero h e i l = absurd (omega arith)
   first-none f (suc count) h e zero l = let z : f + 0 ≡ f = omega arith in rw z (first-turn f count h e .0)
@@ -65,6 +66,7 @@ module _ (b : Batch) (file : ℕ) (r : Fields) where
       let z : f + suc i ≡ f + 1 + i = omega arith in
       rw z (first-none (f + 1) count (omega arith) (first-turn f count h e .1) i (omega arith))
 
+  -- each has number 0, so none is the first
   pub none-first : (f count : ℕ) → ((i : ℕ) → i < count → amiss b file r (f + i) ≡ 0) → firstAmiss b file r f count ≡ 0
   unfolding firstAmiss
   none-first f zero h = refl
@@ -84,12 +86,13 @@ module _ (b : Batch) (file : ℕ) (r : Fields) where
       (λ p. first-wrong (f + 1) count (rw p at h) (rw p at e))
       (λ p. eqb-false (amiss b file r f) 0 p (rw p at e))
 
-  -- all fields
+  -- a record with no first such field has fields that are all fine
   pub fields-none : fieldAmiss b file r ≡ 0 → (f : ℕ) → 1 ≤ f → f ≤ length r → Fine b file f r
   fields-none e f h l =
       let z : 1 + (f - 1) ≡ f = omega arith in
       amiss-none f (rw z at (first-none 1 (length r) (omega arith) e (f - 1) (omega arith)))
 
+  -- a record whose fields are all fine has none
   pub none-fields : ((f : ℕ) → 1 ≤ f → f ≤ length r → Fine b file f r) → fieldAmiss b file r ≡ 0
   none-fields h = none-first 1 (length r) (λ i l. none-amiss (1 + i) (h (1 + i) (omega arith) (omega arith)))
 
@@ -146,21 +149,24 @@ module _ (b : Batch) (file : ℕ) where
       ∙ clean-faults (k + 1) (past ++ (r ∷ [])) rs
       (λ i l. rw (append-assoc past (r ∷ []) (take i rs)) (h (suc i) (omega arith)))
 
-  -- of a file
+  -- no file's fault but `answered []` has number 0
   pub file-settled : linkFault b file .number ≡ 0 → linkFault b file ≡ answered []
   unfolding linkFault
   file-settled e = faults-settled 1 [] (recordsOf b file) e
 
+  -- each record of a file without a fault is clean
   pub file-clean : linkFault b file ≡ answered [] → CleanFile b file
   unfolding linkFault
   file-clean e i l = faults-clean 1 [] (recordsOf b file) e i l
 
+  -- a file whose records are all clean has no fault
   pub clean-file : CleanFile b file → linkFault b file ≡ answered []
   unfolding linkFault
   clean-file h = clean-faults 1 [] (recordsOf b file) h
 
--- of several files, where no file's fault but `answered []` has number 0
+-- several files, where no file's fault but `answered []` has number 0
 module _ (fault : ℕ → Numbered) (settled : (file : ℕ) → fault file .number ≡ 0 → fault file ≡ answered []) where
+  -- where the first fault of all is none, the first file has none, nor have the others
   pub over-turn : (file count : ℕ) → overFiles fault file (suc count) ≡ answered []
       → (fault file ≡ answered []) × (overFiles fault (file + 1) count ≡ answered [])
   unfolding overFiles
@@ -171,6 +177,7 @@ module _ (fault : ℕ → Numbered) (settled : (file : ℕ) → fault file .numb
       let z : fault file ≡ answered [] = rw p at e in
       absurd (eqb-false (fault file .number) 0 p (ap (λ (n : Numbered). n .number) z)))
 
+  -- each of several files has no fault where the first fault of all is none
   pub over-none : (file count : ℕ) → overFiles fault file count ≡ answered [] → (i : ℕ) → i < count → fault (file + i) ≡ answered []
   over-none file zero e i l = absurd (omega arith)
   over-none file (suc count) e zero l = let z : file + 0 ≡ file = omega arith in rw z (over-turn file count e .0)
@@ -178,6 +185,7 @@ module _ (fault : ℕ → Numbered) (settled : (file : ℕ) → fault file .numb
       let z : file + suc i ≡ file + 1 + i = omega arith in
       rw z (over-none (file + 1) count (over-turn file count e .1) i (omega arith))
 
+-- and the other way
 pub none-over : (fault : ℕ → Numbered) (file count : ℕ) → ((i : ℕ) → i < count → fault (file + i) ≡ answered []) → overFiles fault file count ≡ answered []
 unfolding overFiles
 none-over fault file zero h = refl
@@ -187,13 +195,14 @@ none-over fault file (suc count) h =
     rw p
     (none-over fault (file + 1) count (λ i l. let y : file + suc i ≡ file + 1 + i = omega arith in rw y at (h (suc i) (omega arith))))
 
--- of the batch: files 2 to 13
+-- the batch, files 2 to 13: each is clean where there is no fault
 pub links-clean : (b : Batch) → linksFault b ≡ answered [] → (file : ℕ) → 2 ≤ file → file ≤ 13 → CleanFile b file
 unfolding linksFault
 links-clean b e file h l =
     let z : 2 + (file - 2) ≡ file = omega arith in
     file-clean b file (rw z at (over-none (linkFault b) (file-settled b) 2 12 e (file - 2) (omega arith)))
 
+-- a batch whose files are all clean has none
 pub clean-links : (b : Batch) → ((file : ℕ) → 2 ≤ file → file ≤ 13 → CleanFile b file) → linksFault b ≡ answered []
 unfolding linksFault
 clean-links b h = none-over (linkFault b) 2 12 (λ i l. clean-file b (2 + i) (h (2 + i) (omega arith) (omega arith)))

@@ -13,15 +13,17 @@ use Rattle.laws.specs.Tests.{oneOf, never, both-left, both-right, both-true}
 use Rattle.file.specs.Format.{Fields}
 use Rattle.keys.specs.Keys.{keyOf, same, has}
 
--- one of two tests holds
+-- one of two tests holds where the first does
 pub one-left : (a b : Bool) → a ≡ true → oneOf a b ≡ true
 one-left true b e = refl
 one-left false b e = never e
 
+-- the second does
 pub one-right : (a b : Bool) → b ≡ true → oneOf a b ≡ true
 one-right true b e = refl
 one-right false b e = e
 
+-- so one of the two does
 pub one-cases : (a b : Bool) → oneOf a b ≡ true → (a ≡ true) ⊎ (b ≡ true)
 one-cases true b e = inl refl
 one-cases false b e = inr e
@@ -37,12 +39,13 @@ same-equal (a ∷ j) (b ∷ k) e =
     let q : j ≡ k = same-equal j k (both-right (eqb a b) (same j k) e) in
     cc
 
--- and equal numbers are the same
+-- a list is the same as itself
 pub same-self : (k : List ℕ) → same k k ≡ true
 unfolding same
 same-self [] = refl
 same-self (a ∷ k) = both-true (eqb a a) (same k k) (eq-eqb a a refl) (same-self k)
 
+-- equal lists are the same by test
 pub equal-same : (j k : List ℕ) → j ≡ k → same j k ≡ true
 equal-same j k e = rw e (same-self k)
 

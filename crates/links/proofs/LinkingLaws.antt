@@ -1,20 +1,17 @@
 -- A batch in which the stage finds nothing keeps document 01's table: no two records of a file have one key, for the later is not used, and
 -- each link of a row is met, for each field of each record is fine.
-use mathlib.Core.Path.{_≡_, refl, sym, ap, _∙_}
+use mathlib.Core.Path.{_≡_, refl, ap, _∙_}
 use mathlib.Core.Bool.{Bool, true, false, not}
-use mathlib.Core.List.{List, [], _∷_}
-use mathlib.Core.Logic.{_⊎_}
-use Prim.Native.Nat.{ℕ, zero, suc, _+_, _-_, _≤_, _<_}
+use mathlib.Core.List.{[], _∷_}
+use Prim.Native.Nat.{ℕ, _+_, _-_, _≤_, _<_}
 use native.Mathlib.Omega.{arith}
 use lib.Dec.{T, eqb, leb, leb→le}
 use lib.ListN.{length, getD, drop, take, replicate}
 use lib.Seq.{getD-take, length-take-le}
 use Rattle.laws.specs.Tests.{both, clash, both-true}
-use Rattle.laws.specs.Below.{below}
 use Rattle.laws.specs.Numbered.{answered}
 use Rattle.file.specs.Format.{Fields}
 use Rattle.file.specs.Files.{fieldCounts, fieldsOf}
-use Rattle.field.specs.Names.{field}
 use Rattle.keys.specs.Keys.{keyTable, keyFields, keyOf, has}
 use Rattle.thirteen.specs.Batch.{Batch, recordsOf}
 use Rattle.links.specs.Links.{
@@ -33,10 +30,10 @@ use Rattle.links.specs.Links.{
   met,
 }
 use Rattle.links.specs.Stage.{isUsed, linksFault}
-use Rattle.links.specs.Met.{Stands, Distinct, Reaches, number, ToCodes, Linking}
+use Rattle.links.specs.Met.{Stands, Distinct, ToCodes, Linking}
 use Rattle.links.specs.declared.Link.{Link}
 use Rattle.links.proofs.HasLaws.{holds-has}
-use Rattle.links.proofs.FaultLaws.{Fits, Fine, Clean, CleanFile, links-clean}
+use Rattle.links.proofs.FaultLaws.{Fits, Fine, CleanFile, links-clean}
 use Rattle.links.proofs.TableLaws.{Meets, stands-length, met-meets, code-link}
 
 -- what two tests that hold say of each

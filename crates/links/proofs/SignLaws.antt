@@ -1,9 +1,9 @@
 -- The sign of a code number is that of the record of Pevnykod that has it, and the tests of a code's sign are the quantified statements.
 use mathlib.Core.Path.{_≡_, refl, sym, ap, _∙_}
-use mathlib.Core.Bool.{Bool, true, false}
+use mathlib.Core.Bool.{true}
 use mathlib.Core.List.{List, [], _∷_}
 use mathlib.Core.Logic.{_⊎_, inl, inr}
-use Prim.Native.Nat.{ℕ, zero, suc, _+_, _≤_, _<_}
+use Prim.Native.Nat.{ℕ, zero, suc, _<_}
 use native.Mathlib.Omega.{arith}
 use lib.Dec.{eqb}
 use lib.ListN.{length, getD}
@@ -11,7 +11,7 @@ use borrow.Author.Tests.{eqb-true, eq-eqb}
 use Rattle.laws.specs.Tests.{both, oneOf, either, never, both-left, both-right, both-true}
 use Rattle.file.specs.Format.{Fields}
 use Rattle.field.specs.Values.{isEmpty}
-use Rattle.field.specs.Names.{field, tripStopsFile}
+use Rattle.field.specs.Names.{field}
 use Rattle.keys.specs.Keys.{keyTable, keyFields, numbers, keyOf, same, has}
 use Rattle.thirteen.specs.Batch.{Batch, recordsOf}
 use Rattle.links.specs.Signs.{
@@ -26,14 +26,13 @@ use Rattle.links.specs.Signs.{
   codeFits,
   signFits,
 }
-use Rattle.links.specs.Links.{met}
-use Rattle.links.specs.Met.{Stands, Distinct, Reaches, number, Sign, PermittedIn, OneSign}
+use Rattle.links.specs.Met.{Distinct, Reaches, number, Sign, PermittedIn, OneSign}
 use Rattle.links.specs.declared.Link.{Link}
 use Rattle.links.proofs.HasLaws.{one-left, one-right, one-cases, same-equal, equal-same}
 use Rattle.links.proofs.FaultLaws.{Fits}
 use Rattle.links.proofs.TableLaws.{Meets, reaches-has, met-meets, meets-met}
 
--- a number that is in a list by test stands in it, and the other way
+-- a number that is in a list by test stands in it
 pub in-at : (x : ℕ) (ys : List ℕ) → isIn x ys ≡ true → (k : ℕ) × (k < length ys) × (getD ys k 0 ≡ x)
 unfolding isIn
 in-at x [] e = never e
@@ -44,6 +43,7 @@ in-at x (y ∷ ys) e = go (one-cases (eqb x y) (isIn x ys) e) (in-at x ys)
     go (inl p) rest = (0, omega arith, sym (eqb-true x y p))
     go (inr p) rest = let h = rest p in (suc (h .0), omega (arith, h .1), h .2)
 
+-- and one that stands in it is in it by test
 pub at-in : (x : ℕ) (ys : List ℕ) (k : ℕ) → k < length ys → getD ys k 0 ≡ x → isIn x ys ≡ true
 unfolding isIn
 at-in x [] k h e = absurd (omega arith)
@@ -105,7 +105,7 @@ module _ (b : Batch) where
       sign-is rs c (s .0) (s .1) at
       (λ j h e.
       let k : keyOf codesFile (getD rs j []) ≡ keyOf codesFile (getD rs (s .0) []) =
-        code-key (getD rs j []) ∙ ap (λ (m : ℕ). m ∷ []) (e ∙ sym at) ∙ sym (code-key (getD rs (s .0) [])) in
+      code-key (getD rs j []) ∙ ap (λ (m : ℕ). m ∷ []) (e ∙ sym at) ∙ sym (code-key (getD rs (s .0) [])) in
       d j (s .0) h (s .1) k)
       ∙ ap (λ (r : Fields). firstByte (field 2 r)) (s .2)
       ∙ y
@@ -144,7 +144,7 @@ module _ (b : Batch) (file f : ℕ) (r : Fields) where
       go (inr p) (inl z) = one-left (isEmpty (field f r)) _ (eq-eqb (length (field f r)) 0 z)
       go (inr (x, s, p)) (inr y) =
           let z : isPermitted file (signOf b (number f r)) ≡ true =
-            rw (sign-only b d (number f r) x s) (at-in x (getD permittedSigns file []) (p .0) (p .1) (p .2)) in
+          rw (sign-only b d (number f r) x s) (at-in x (getD permittedSigns file []) (p .0) (p .1) (p .2)) in
           one-right (isEmpty (field f r)) _ (both-true (isPermitted file (signOf b (number f r))) (sameSign b file f r) z y)
 
 module _ (b : Batch) (r : Fields) where
@@ -158,6 +158,7 @@ module _ (b : Batch) (r : Fields) where
       last : (x y : ℕ) → Sign b (number 6 r) x → Sign b (number 7 r) y → (isEmpty (field 6 r) ≡ true) ⊎ (eqb x y ≡ true) → OneSign b 6 7 r
       last x y p q (inl z) = inl (eqb-true (length (field 6 r)) 0 z)
       last x y p q (inr z) = inr (inr (x, p, rw (eqb-true x y z) q))
+
       go : (length (field 6 r) ≡ 0) ⊎ Reaches b 3 (number 6 r ∷ []) → (length (field 7 r) ≡ 0) ⊎ Reaches b 3 (number 7 r ∷ [])
           → (isEmpty (field 7 r) ≡ true) ⊎ (both (isPermitted 8 (signOf b (number 7 r))) (sameSign b 8 7 r) ≡ true) → OneSign b 6 7 r
       go (inl z) q t = inl z

@@ -1,8 +1,7 @@
 -- A batch in which the stage finds nothing keeps document 01's permitted signs: each code of each record is fine.
 use mathlib.Core.Path.{_≡_, refl}
-use mathlib.Core.Bool.{true}
 use mathlib.Core.List.{[], _∷_}
-use Prim.Native.Nat.{ℕ, _+_, _-_, _≤_, _<_}
+use Prim.Native.Nat.{ℕ, _+_, _-_}
 use native.Mathlib.Omega.{arith}
 use lib.Dec.{T, leb}
 use lib.ListN.{getD, drop, replicate}
@@ -34,12 +33,11 @@ signed b none =
       trip-signs = signs-at b none 6 3 12 tt tt tt refl;
       line-stop-signs = signs-at b none 7 5 7 tt tt tt refl;
       trip-stop-signs =
-        λ r s.
-        (
-          signs-at b none 8 6 7 tt tt tt refl r s,
-          fits-one b r
-          (fine-codes b none 8 6 7 tt tt tt refl r s 6 (omega arith) (omega arith))
-          (fine-codes b none 8 6 7 tt tt tt refl r s 7 (omega arith) (omega arith)),
-        );
+          λ r s. (
+            signs-at b none 8 6 7 tt tt tt refl r s,
+            fits-one b r
+                (fine-codes b none 8 6 7 tt tt tt refl r s 6 (omega arith) (omega arith))
+                (fine-codes b none 8 6 7 tt tt tt refl r s 7 (omega arith) (omega arith)),
+          );
       carrier-signs = signs-at b none 11 4 9 tt tt tt refl;
     }

@@ -1,9 +1,9 @@
 -- In a batch that keeps the table of keys and links and the permitted signs, the stage finds nothing: each link of a file's row fits, so each
 -- field of each of its records is fine, and no earlier record has its key.
 use mathlib.Core.Path.{_≡_, refl, sym, ap, _∙_}
-use mathlib.Core.Bool.{Bool, true, false, not}
+use mathlib.Core.Bool.{true, false, not}
 use mathlib.Core.List.{List, [], _∷_}
-use mathlib.Core.Logic.{_⊎_, inl, inr}
+use mathlib.Core.Logic.{_⊎_, inr}
 use Prim.Native.Nat.{ℕ, zero, suc, _+_, _-_, _≤_, _<_}
 use native.Mathlib.Omega.{arith}
 use native.Mathlib.Decide.{ℕ-discrete}
@@ -11,7 +11,7 @@ use borrow.Author.Tests.{ne-eqb}
 use lib.Dec.{eqb}
 use lib.ListN.{length, getD, take, replicate}
 use lib.Seq.{getD-take, length-take-le}
-use Rattle.laws.specs.Tests.{both, either, both-right}
+use Rattle.laws.specs.Tests.{either, both-right}
 use Rattle.laws.specs.Numbered.{answered}
 use Rattle.file.specs.Format.{Fields}
 use Rattle.field.specs.Names.{field}
@@ -41,9 +41,9 @@ use Rattle.links.proofs.FaultLaws.{Fits, CleanFile, clean-links}
 use Rattle.links.proofs.TableLaws.{Meets, meets-met}
 use Rattle.links.proofs.SignLaws.{signed-fits, one-same}
 
--- one part of a proof, and the others
 infixr 2 _then_
-_then_ : {A B : Type 0} → A → B → A × B
+-- one part of a proof, and the others
+pub _then_ : {A B : Type 0} → A → B → A × B
 a then b = (a, b)
 
 -- something holds of each of `count` numbers from one on
@@ -51,6 +51,7 @@ abbrev pub All : (ℕ → Type 0) → ℕ → ℕ → Type 0
 All P from zero = Unit
 All P from (suc count) = P from × All P (from + 1) count
 
+-- so it holds of each of them
 pub all-at : (P : ℕ → Type 0) (from count : ℕ) → All P from count → (i : ℕ) → i < count → P (from + i)
 all-at P from zero a i h = absurd (omega arith)
 all-at P from (suc count) a zero h = let z : from + 0 ≡ from = omega arith in rw z (a .0)
@@ -127,13 +128,14 @@ module _ (b : Batch) (file : ℕ) (r : Fields) where
       (λ f p q. let l : f ≤ to = omega arith in signed-fits b file f r d (m f p l) (s f p l) (t f p l))
 
 -- only Zasspoje's second code is to have another's sign
-first-same : (b : Batch) (f : ℕ) (r : Fields) → (f ≡ 7 → ⊥) → sameSign b 8 f r ≡ true
+pub first-same : (b : Batch) (f : ℕ) (r : Fields) → (f ≡ 7 → ⊥) → sameSign b 8 f r ≡ true
 unfolding sameSign
 first-same b f r e = rw (ne-eqb f 7 e)
 
--- the files, row by row
+-- each file is clean, row by row of the table
 module _ (b : Batch) (k : Linking b) (s : Signed b) where
-  stops-clean : CleanFile b 2
+  -- Zastavky
+  pub stops-clean : CleanFile b 2
   unfolding links zastavky sameSign
   stops-clean =
       row-clean b 2 (distinct-unused b 2 (k .stops-key))
@@ -147,21 +149,25 @@ module _ (b : Batch) (k : Linking b) (s : Signed b) where
       then free 6
       then codes-fit b 2 r (k .codes-key) 7 12 6 refl (k .stops r i) (s .stop-signs r i) (λ f p q. inr refl))
 
-  codes-clean : CleanFile b 3
+  -- Pevnykod
+  pub codes-clean : CleanFile b 3
   unfolding links
   codes-clean = row-clean b 3 (distinct-unused b 3 (k .codes-key)) (λ r i. tt)
 
-  carriers-clean : CleanFile b 4
+  -- Dopravci
+  pub carriers-clean : CleanFile b 4
   unfolding links
   carriers-clean = row-clean b 4 (distinct-unused b 4 (k .carriers-key)) (λ r i. tt)
 
-  lines-clean : CleanFile b 5
+  -- Linky
+  pub lines-clean : CleanFile b 5
   unfolding links linky signFits
   lines-clean =
       row-clean b 5 (distinct-unused b 5 (k .lines-key))
       (λ r i. let free = free-fits b 5 r in free 1 then free 2 then met-fits b 5 r Link.Carrier 3 refl (k .lines r i) then tt)
 
-  trips-clean : CleanFile b 6
+  -- Spoje
+  pub trips-clean : CleanFile b 6
   unfolding links spoje signFits sameSign
   trips-clean =
       row-clean b 6 (distinct-unused b 6 (k .trips-key))
@@ -171,7 +177,8 @@ module _ (b : Batch) (k : Linking b) (s : Signed b) where
       then free-fits b 6 r 2
       then codes-fit b 6 r (k .codes-key) 3 12 10 refl (m .1) (s .trip-signs r i) (λ f p q. inr refl))
 
-  line-stops-clean : CleanFile b 7
+  -- Zaslinky
+  pub line-stops-clean : CleanFile b 7
   unfolding links zaslinky signFits sameSign
   line-stops-clean =
       row-clean b 7 (distinct-unused b 7 (k .line-stops-key))
@@ -184,14 +191,15 @@ module _ (b : Batch) (k : Linking b) (s : Signed b) where
       then codes-fit b 7 r (k .codes-key) 5 7 3 refl (m .2) (s .line-stop-signs r i) (λ f p q. inr refl))
 
   -- Zasspoje's first code has no sign to be like, its second that of the first
-  same-at : (r : Fields) → Stands b 8 r → (f : ℕ) → 6 ≤ f → f ≤ 7 → (length (field f r) ≡ 0) ⊎ (sameSign b 8 f r ≡ true)
+  pub same-at : (r : Fields) → Stands b 8 r → (f : ℕ) → 6 ≤ f → f ≤ 7 → (length (field f r) ≡ 0) ⊎ (sameSign b 8 f r ≡ true)
   same-at r i f p q = go (ℕ-discrete f 7)
     where
       go : Dec (f ≡ 7) → (length (field f r) ≡ 0) ⊎ (sameSign b 8 f r ≡ true)
       go (yes e) = rw e (one-same b r (k .codes-key) (s .trip-stop-signs r i .1))
       go (no e) = inr (first-same b f r e)
 
-  trip-stops-clean : CleanFile b 8
+  -- Zasspoje
+  pub trip-stops-clean : CleanFile b 8
   unfolding links zasspoje signFits
   trip-stops-clean =
       row-clean b 8 (distinct-unused b 8 (k .trip-stops-key))
@@ -204,18 +212,20 @@ module _ (b : Batch) (k : Linking b) (s : Signed b) where
       then free-fits b 8 r 5
       then codes-fit b 8 r (k .codes-key) 6 7 2 refl (m .3) (s .trip-stop-signs r i .0) (same-at r i))
 
-  notes-clean : CleanFile b 9
+  -- Udaje
+  pub notes-clean : CleanFile b 9
   unfolding links udaje signFits
   notes-clean = row-clean b 9 (distinct-unused b 9 (k .notes-key)) (λ r i. met-fits b 9 r Link.Line 1 refl (k .notes r i) then tt)
 
-  time-codes-clean : CleanFile b 10
+  -- Caskody
+  pub time-codes-clean : CleanFile b 10
   unfolding links caskody signFits
   time-codes-clean =
       row-clean b 10 (distinct-unused b 10 (k .time-codes-key))
       (λ r i. free-fits b 10 r 1 then met-fits b 10 r Link.Trip 2 refl (k .time-codes r i) then tt)
 
-  -- these have no key
-  alternatives-clean : CleanFile b 11
+  -- Altdop, which has no key
+  pub alternatives-clean : CleanFile b 11
   unfolding keyFields keyTable isUsed links altdop signFits sameSign
   alternatives-clean =
       row-clean b 11 (λ i l. refl)
@@ -226,11 +236,13 @@ module _ (b : Batch) (k : Linking b) (s : Signed b) where
       then met-fits b 11 r Link.Carrier 3 refl (m .1)
       then codes-fit b 11 r (k .codes-key) 4 9 6 refl (m .2) (s .carrier-signs r i) (λ f p q. inr refl))
 
-  other-names-clean : CleanFile b 12
+  -- Altlinky, which has no key
+  pub other-names-clean : CleanFile b 12
   unfolding keyFields keyTable isUsed links altlinky signFits
   other-names-clean = row-clean b 12 (λ i l. refl) (λ r i. met-fits b 12 r Link.Line 1 refl (k .other-names r i) then tt)
 
-  seats-clean : CleanFile b 13
+  -- Mistenky, which has no key
+  pub seats-clean : CleanFile b 13
   unfolding keyFields keyTable isUsed links mistenky signFits
   seats-clean =
       row-clean b 13 (λ i l. refl)
@@ -239,7 +251,7 @@ module _ (b : Batch) (k : Linking b) (s : Signed b) where
       met-fits b 13 r Link.Line 1 refl (m .0) then met-fits b 13 r Link.TripOrZero 2 refl (m .1) then tt)
 
   -- all files
-  files-clean : All (λ file. CleanFile b file) 2 12
+  pub files-clean : All (λ file. CleanFile b file) 2 12
   files-clean =
       stops-clean
       then codes-clean

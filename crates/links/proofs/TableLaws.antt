@@ -1,16 +1,15 @@
 -- What a link says once it is met, as a quantified statement, and which links stand in a file's row of the table. A record has as many
 -- fields as its file's records, so each field of the row is looked at.
 use mathlib.Core.Path.{_≡_, refl, sym, ap, _∙_}
-use mathlib.Core.Bool.{Bool, true, false}
+use mathlib.Core.Bool.{true}
 use mathlib.Core.List.{List, [], _∷_}
 use mathlib.Core.Logic.{_⊎_, inl, inr}
-use Prim.Native.Nat.{ℕ, zero, suc, _+_, _-_, _≤_, _<_}
+use Prim.Native.Nat.{ℕ, _+_, _-_, _≤_, _<_}
 use native.Mathlib.Omega.{arith}
 use lib.Dec.{eqb}
 use lib.ListN.{length, getD, drop, replicate, getD-replicate}
 use lib.Seq.{getD-drop}
 use borrow.Author.Tests.{eqb-true, eq-eqb}
-use Rattle.laws.specs.Tests.{oneOf}
 use Rattle.file.specs.Format.{Fields}
 use Rattle.file.specs.Files.{fieldsOf}
 use Rattle.file.specs.Reading.{reading}
@@ -37,9 +36,11 @@ length-by n s (Whole k) i h =
 length-by n s (Unfit at) i h = absurd (omega arith)
 length-by n s (CutShort at) i h = absurd (omega arith)
 
+-- for any file, as it is read
 pub record-length : (n : ℕ) (s : List ℕ) (i : ℕ) → i < length (recordsIn n s) → length (getD (recordsIn n s) i []) ≡ n
 record-length n s i h = length-by n s (reading n s) i h
 
+-- for a record that stands in a file of the batch
 pub stands-length : (b : Batch) (file : ℕ) (r : Fields) → Stands b file r → length r ≡ fieldsOf file
 stands-length b file r s = ap length (sym (s .2)) ∙ length-by (fieldsOf file) _ _ (s .0) (s .1)
 
@@ -55,12 +56,13 @@ Meets b Link.LineStop f r = ToLineStop b r
 Meets b Link.Code f r = (length (field f r) ≡ 0) ⊎ Reaches b 3 (number f r ∷ [])
 
 module _ (b : Batch) where
-  -- a record that is reached by test is reached, and the other way
+  -- a record that is reached by test is reached
   pub has-reaches : (file : ℕ) (key : List ℕ) → has file key (recordsOf b file) ≡ true → Reaches b file key
   has-reaches file key e =
       let h = has-holds file key (recordsOf b file) e in
       (getD (recordsOf b file) (h .0) [], (h .0, h .1, refl), h .2)
 
+  -- a record that is reached is reached by test
   pub reaches-has : (file : ℕ) (key : List ℕ) → Reaches b file key → has file key (recordsOf b file) ≡ true
   reaches-has file key (q, s, e) =
       holds-has file key (recordsOf b file) (s .0) (s .1) (ap (λ (r : Fields). keyOf file r) (s .2) ∙ e)

@@ -5,3 +5,4 @@ pub mod LinkingLaws
 pub mod SignLaws
 pub mod SignedLaws
 pub mod SoundLaws
+pub mod OrderLaws

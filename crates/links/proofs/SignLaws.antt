@@ -12,7 +12,7 @@ use Rattle.laws.specs.Tests.{both, oneOf, either, never, both-left, both-right,
 use Rattle.file.specs.Format.{Fields}
 use Rattle.field.specs.Values.{isEmpty}
 use Rattle.field.specs.Names.{field}
-use Rattle.keys.specs.Keys.{keyTable, keyFields, numbers, keyOf, same, has}
+use Rattle.keys.specs.Keys.{keyOf, same, has}
 use Rattle.thirteen.specs.Batch.{Batch, recordsOf}
 use Rattle.links.specs.Signs.{
   codesFile,
@@ -30,7 +30,7 @@ use Rattle.links.specs.Met.{Distinct, Reaches, number, Sign, PermittedIn
 use Rattle.links.specs.declared.Link.{Link}
 use Rattle.links.proofs.HasLaws.{one-left, one-right, one-cases, same-equal, equal-same}
 use Rattle.links.proofs.FaultLaws.{Fits}
-use Rattle.links.proofs.TableLaws.{Meets, reaches-has, met-meets, meets-met}
+use Rattle.links.proofs.TableLaws.{key-column, Meets, reaches-has, met-meets, meets-met}
 
 -- a number that is in a list by test stands in it
 pub in-at : (x : ℕ) (ys : List ℕ) → isIn x ys ≡ true → (k : ℕ) × (k < length ys) × (getD ys k 0 ≡ x)
@@ -52,8 +52,7 @@ at-in x (y ∷ ys) (suc k) h e = one-right (eqb x y) (isIn x ys) (at-in x ys k (
 
 -- the key of a record of Pevnykod is its number
 pub code-key : (q : Fields) → keyOf codesFile q ≡ number 1 q ∷ []
-unfolding keyFields keyTable numbers
-code-key q = refl
+code-key q = key-column q .code-key
 
 -- the record at some place has this number, and this is its sign
 abbrev pub SignAt : List Fields → ℕ → ℕ → Type 0

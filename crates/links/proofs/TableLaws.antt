@@ -19,12 +19,28 @@ use Rattle.file.specs.declared.Outcome.the-variants.{Whole, Unfit, CutShort}
 use Rattle.file.proofs.RecordLaws.{size-upTo, at-upTo}
 use Rattle.field.specs.Values.{isEmpty}
 use Rattle.field.specs.Names.{field}
-use Rattle.keys.specs.Keys.{keyOf, numbers, has}
+use Rattle.keys.specs.Keys.{keyTable, keyFields, keyOf, numbers, has}
 use Rattle.thirteen.specs.Batch.{Batch, recordsOf}
 use Rattle.links.specs.Links.{links, linkOf, target, linkFields, reaches, met}
-use Rattle.links.specs.Met.{Stands, Reaches, number, ToLine, ToStop, ToCarrier, ToTrip, ToLineStop}
+use Rattle.links.specs.Met.{Stands, Reaches, KeyColumn, number, ToLine, ToStop, ToCarrier, ToTrip, ToLineStop}
 use Rattle.links.specs.declared.Link.{Link}
 use Rattle.links.proofs.HasLaws.{one-left, one-right, one-cases, has-holds, holds-has}
+
+-- the keys of a record are those of the table's column
+pub key-column : (r : Fields) → KeyColumn r
+unfolding keyFields keyTable numbers
+key-column r =
+    record {
+      stop-key = refl;
+      code-key = refl;
+      carrier-key = refl;
+      line-key = refl;
+      trip-key = refl;
+      line-stop-key = refl;
+      trip-stop-key = refl;
+      note-key = refl;
+      time-code-key = refl;
+    }
 
 -- every record of a file has its file's number of fields
 pub length-by : (n : ℕ) (s : List ℕ) (o : Outcome) (i : ℕ) → i < length (recordsBy n s o) → length (getD (recordsBy n s o) i []) ≡ n

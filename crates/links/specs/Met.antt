@@ -29,6 +29,18 @@ Reaches b file key = (q : Fields) × Stands b file q × (keyOf file q ≡ key)
 abbrev pub number : ℕ → Fields → ℕ
 number f r = value (field f r)
 
+-- document 01's table, column "key": the numbers of a record that are its key, file by file
+pub record KeyColumn (r : Fields) : Type 0 where
+  pub stop-key : keyOf 2 r ≡ number 1 r ∷ []
+  pub code-key : keyOf 3 r ≡ number 1 r ∷ []
+  pub carrier-key : keyOf 4 r ≡ number 1 r ∷ []
+  pub line-key : keyOf 5 r ≡ number 1 r ∷ []
+  pub trip-key : keyOf 6 r ≡ number 1 r ∷ number 2 r ∷ []
+  pub line-stop-key : keyOf 7 r ≡ number 1 r ∷ number 2 r ∷ []
+  pub trip-stop-key : keyOf 8 r ≡ number 1 r ∷ number 2 r ∷ number 3 r ∷ []
+  pub note-key : keyOf 9 r ≡ number 1 r ∷ number 2 r ∷ []
+  pub time-code-key : keyOf 10 r ≡ number 1 r ∷ number 2 r ∷ number 3 r ∷ []
+
 -- line, stop, carrier and code of field f; trip and line's stop of the fields that name them
 abbrev pub ToLine : Batch → ℕ → Fields → Type 0
 ToLine b f r = Reaches b 5 (number f r ∷ [])

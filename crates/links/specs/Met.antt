@@ -10,6 +10,7 @@ use Rattle.field.specs.Values.{value}
 use Rattle.field.specs.Names.{field}
 use Rattle.keys.specs.Keys.{keyOf}
 use Rattle.thirteen.specs.Batch.{Batch, recordsOf}
+use Rattle.links.specs.Signs.{codesFile, firstByte, permittedSigns}
 
 -- r is a record of this file
 abbrev pub Stands : Batch → ℕ → Fields → Type 0
@@ -27,6 +28,18 @@ Reaches b file key = (q : Fields) × Stands b file q × (keyOf file q ≡ key)
 -- the number in field f
 abbrev pub number : ℕ → Fields → ℕ
 number f r = value (field f r)
+
+-- document 01's table, column "key": the numbers of a record that are its key, file by file
+pub record KeyColumn (r : Fields) : Type 0 where
+  pub stop-key : keyOf 2 r ≡ number 1 r ∷ []
+  pub code-key : keyOf 3 r ≡ number 1 r ∷ []
+  pub carrier-key : keyOf 4 r ≡ number 1 r ∷ []
+  pub line-key : keyOf 5 r ≡ number 1 r ∷ []
+  pub trip-key : keyOf 6 r ≡ number 1 r ∷ number 2 r ∷ []
+  pub line-stop-key : keyOf 7 r ≡ number 1 r ∷ number 2 r ∷ []
+  pub trip-stop-key : keyOf 8 r ≡ number 1 r ∷ number 2 r ∷ number 3 r ∷ []
+  pub note-key : keyOf 9 r ≡ number 1 r ∷ number 2 r ∷ []
+  pub time-code-key : keyOf 10 r ≡ number 1 r ∷ number 2 r ∷ number 3 r ∷ []
 
 -- line, stop, carrier and code of field f; trip and line's stop of the fields that name them
 abbrev pub ToLine : Batch → ℕ → Fields → Type 0
@@ -73,3 +86,28 @@ pub record Linking (b : Batch) : Type 0 where
   pub alternatives : Each b 11 (λ r. ToTrip b r × ToCarrier b 3 r × ToCodes b 4 9 r)
   pub other-names : Each b 12 (λ r. ToLine b 1 r)
   pub seats : Each b 13 (λ r. ToLine b 1 r × ((number 2 r ≡ 0) ⊎ ToTrip b r))
+
+-- x is the sign of code number c: that of a record of Pevnykod that has the number. Where `codes-key` holds there is one such record.
+abbrev pub Sign : Batch → ℕ → ℕ → Type 0
+Sign b c x = (q : Fields) × Stands b codesFile q × (number 1 q ≡ c) × (firstByte (field 2 q) ≡ x)
+
+-- x is one of the signs that are permitted in this file
+abbrev pub PermittedIn : ℕ → ℕ → Type 0
+PermittedIn file x = (k : ℕ) × (k < length (getD permittedSigns file [])) × (getD (getD permittedSigns file []) k 0 ≡ x)
+
+-- codes: each is empty, or its sign is permitted in this file
+abbrev pub PermittedCodes : Batch → ℕ → ℕ → ℕ → Fields → Type 0
+PermittedCodes b file from to r = (f : ℕ) → from ≤ f → f ≤ to → (length (field f r) ≡ 0) ⊎ ((x : ℕ) × Sign b (number f r) x × PermittedIn file x)
+
+-- the codes of fields f and g, if both are given, have the same sign
+abbrev pub OneSign : Batch → ℕ → ℕ → Fields → Type 0
+OneSign b f g r =
+    (length (field f r) ≡ 0) ⊎ ((length (field g r) ≡ 0) ⊎ ((x : ℕ) × Sign b (number f r) x × Sign b (number g r) x))
+
+-- document 01's permitted signs
+pub record Signed (b : Batch) : Type 0 where
+  pub stop-signs : Each b 2 (λ r. PermittedCodes b 2 7 12 r)
+  pub trip-signs : Each b 6 (λ r. PermittedCodes b 6 3 12 r)
+  pub line-stop-signs : Each b 7 (λ r. PermittedCodes b 7 5 7 r)
+  pub trip-stop-signs : Each b 8 (λ r. PermittedCodes b 8 6 7 r × OneSign b 6 7 r)
+  pub carrier-signs : Each b 11 (λ r. PermittedCodes b 11 4 9 r)

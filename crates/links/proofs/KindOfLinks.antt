@@ -4,7 +4,7 @@ use mathlib.Core.Path.{_≡_, refl, sym}
 use mathlib.Core.Bool.{Bool, true, false}
 use mathlib.Core.List.{List, [], _∷_}
 use mathlib.Core.Logic.{_⊎_, inl, inr}
-use Prim.Native.Nat.{ℕ, zero, suc, _+_, _-_, _≤_, _<_}
+use Prim.Native.Nat.{ℕ, zero, suc, _≤_, _<_}
 use native.Mathlib.Omega.{arith}
 use lib.Dec.{T, eqb, leb, ltb}
 use lib.ListN.{length, getD, List·getD-eq-default}
@@ -87,17 +87,19 @@ isCodeField file f = both (codeKind (kindOf file f)) (both (leb 1 f) (leb f (fie
 
 number-at : (file f : ℕ) → isNumber file f ≡ true → NumberAt file f
 number-at file f e =
-    let r = both-right (numeric (kindOf file f)) (both (leb 1 f) (leb f (fieldsOf file))) e in
-    ( both-left (numeric (kindOf file f)) (both (leb 1 f) (leb f (fieldsOf file))) e
-    , leb-true _ _ (both-left (leb 1 f) (leb f (fieldsOf file)) r)
-    , leb-true _ _ (both-right (leb 1 f) (leb f (fieldsOf file)) r) )
+    let r = both-right (numeric (kindOf file f)) (both (leb 1 f) (leb f (fieldsOf file))) e in (
+      both-left (numeric (kindOf file f)) (both (leb 1 f) (leb f (fieldsOf file))) e,
+      leb-true _ _ (both-left (leb 1 f) (leb f (fieldsOf file)) r),
+      leb-true _ _ (both-right (leb 1 f) (leb f (fieldsOf file)) r),
+    )
 
 code-at : (file f : ℕ) → isCodeField file f ≡ true → CodeAt file f
 code-at file f e =
-    let r = both-right (codeKind (kindOf file f)) (both (leb 1 f) (leb f (fieldsOf file))) e in
-    ( both-left (codeKind (kindOf file f)) (both (leb 1 f) (leb f (fieldsOf file))) e
-    , leb-true _ _ (both-left (leb 1 f) (leb f (fieldsOf file)) r)
-    , leb-true _ _ (both-right (leb 1 f) (leb f (fieldsOf file)) r) )
+    let r = both-right (codeKind (kindOf file f)) (both (leb 1 f) (leb f (fieldsOf file))) e in (
+      both-left (codeKind (kindOf file f)) (both (leb 1 f) (leb f (fieldsOf file))) e,
+      leb-true _ _ (both-left (leb 1 f) (leb f (fieldsOf file)) r),
+      leb-true _ _ (both-right (leb 1 f) (leb f (fieldsOf file)) r),
+    )
 
 -- the test of a link: the fields that it is made of are numbers or codes, and it stands where its fields say
 fits : ℕ → ℕ → Link → Bool
@@ -143,8 +145,8 @@ unfolding fits
 fit file f =
     either (ltb file 14)
     (λ p. either (ltb f 14)
-        (λ q. is-true (fits file f (linkOf file f)) (all-fit file f (ltb-true _ _ p) (ltb-true _ _ q)))
-        (λ q. rw (sym (far-field file f (ltb-false _ _ q)))))
+    (λ q. is-true (fits file f (linkOf file f)) (all-fit file f (ltb-true _ _ p) (ltb-true _ _ q)))
+    (λ q. rw (sym (far-field file f (ltb-false _ _ q)))))
     (λ p. rw (sym (far-file file f (ltb-false _ _ p))))
 
 -- a link by one field: that field is a number of the record
@@ -169,10 +171,11 @@ module _ (file f : ℕ) where
   -- a trip: fields 1 and 2, reported at the second
   two : both (eqb f 2) (both (isNumber file 1) (isNumber file 2)) ≡ true → (f ≡ 2) × NumberAt file 1 × NumberAt file 2
   two e =
-      let r = both-right (eqb f 2) (both (isNumber file 1) (isNumber file 2)) e in
-      ( eqb-true f 2 (both-left (eqb f 2) (both (isNumber file 1) (isNumber file 2)) e)
-      , number-at file 1 (both-left (isNumber file 1) (isNumber file 2) r)
-      , number-at file 2 (both-right (isNumber file 1) (isNumber file 2) r) )
+      let r = both-right (eqb f 2) (both (isNumber file 1) (isNumber file 2)) e in (
+        eqb-true f 2 (both-left (eqb f 2) (both (isNumber file 1) (isNumber file 2)) e),
+        number-at file 1 (both-left (isNumber file 1) (isNumber file 2) r),
+        number-at file 2 (both-right (isNumber file 1) (isNumber file 2) r),
+      )
 
   pub trip-numeric : linkOf file f ≡ Link.Trip → (f ≡ 2) × NumberAt file 1 × NumberAt file 2
   unfolding fits
@@ -188,11 +191,12 @@ module _ (file f : ℕ) where
   line-stop-numeric e =
       let z : both (eqb file 8) (both (eqb f 3) (both (isNumber file 1) (isNumber file 3))) ≡ true = rw e at (fit file f) in
       let y = both-right (eqb file 8) (both (eqb f 3) (both (isNumber file 1) (isNumber file 3))) z in
-      let x = both-right (eqb f 3) (both (isNumber file 1) (isNumber file 3)) y in
-      ( eqb-true file 8 (both-left (eqb file 8) (both (eqb f 3) (both (isNumber file 1) (isNumber file 3))) z)
-      , eqb-true f 3 (both-left (eqb f 3) (both (isNumber file 1) (isNumber file 3)) y)
-      , number-at file 1 (both-left (isNumber file 1) (isNumber file 3) x)
-      , number-at file 3 (both-right (isNumber file 1) (isNumber file 3) x) )
+      let x = both-right (eqb f 3) (both (isNumber file 1) (isNumber file 3)) y in (
+        eqb-true file 8 (both-left (eqb file 8) (both (eqb f 3) (both (isNumber file 1) (isNumber file 3))) z),
+        eqb-true f 3 (both-left (eqb f 3) (both (isNumber file 1) (isNumber file 3)) y),
+        number-at file 1 (both-left (isNumber file 1) (isNumber file 3) x),
+        number-at file 3 (both-right (isNumber file 1) (isNumber file 3) x),
+      )
 
 -- each field of a key is a number of the record
 numbersTest : ℕ → List ℕ → Bool

@@ -6,3 +6,5 @@ pub mod SignLaws
 pub mod SignedLaws
 pub mod SoundLaws
 pub mod OrderLaws
+pub mod MatchLaws
+pub mod KindOfLinks

@@ -2,3 +2,4 @@ pub mod Links
 pub mod Signs
 pub mod Stage
 pub mod Met
+pub mod Numeric

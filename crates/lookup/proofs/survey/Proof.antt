@@ -1,83 +1,49 @@
+-- `lookup::survey` meets its contract. The loop's invariant: the ways to the files below `file` are kept.
+use mathlib.Core.Path.{_≡_, sym, subst, _∙_}
+use mathlib.Core.List.{List}
+use Prim.Native.Nat.{ℕ, _+_, _-_, _*_, _≤_, _<_}
+use native.Mathlib.Omega.{arith}
+use borrow.Author.Needs.{needs}
+use lib.ListN.{length}
+use denote.Ref.{now}
+use Rattle.keys.specs.KeyFiles.{KeyFile}
+use Rattle.thirteen.specs.Batch.{Batch, thirteen, fileIn}
+use Rattle.lookup.specs.Ways.{Way}
+use Rattle.lookup.proofs.WayLaws.{WaysBelow, setWay-size, ways-more, ways-none, ways-all}
 use Rattle.lookup.proofs.survey.Statement.{statement}
 use Rattle.lookup.proofs.survey.Tie as tie
-use Rattle.lookup.proofs.survey.Reads as reads
-use Rattle.lookup.proofs.survey.Lts as lts
-use Rattle.lookup.proofs.way_to.Reads as way-to-reads
-use Rattle.thirteen.proofs.file_of.Reads as file-of-reads
 
 abbrev Inv-loop : tie.InvT-loop
-Inv-loop f1 f2 f3 f4 f5 f6 f7 f8 f9 f10 f11 f12 f13 order ways₀ from₀ file₀ ways from file = ?
+Inv-loop f1 f2 f3 f4 f5 f6 f7 f8 f9 f10 f11 f12 f13 order ways₀ from₀ file₀ ways from file =
+    (2 ≤ file) × (file ≤ 11) × (from ≤ length order) × (33 ≤ length ways) × WaysBelow (thirteen f1 f2 f3 f4 f5 f6 f7 f8 f9 f10 f11 f12 f13) order ways file
 
 abbrev μ-loop : tie.MeasureT-loop
-μ-loop f1 f2 f3 f4 f5 f6 f7 f8 f9 f10 f11 f12 f13 order ways₀ from₀ file₀ ways from file = ?
+μ-loop f1 f2 f3 f4 f5 f6 f7 f8 f9 f10 f11 f12 f13 order ways₀ from₀ file₀ ways from file = 11 - file
 
--- src/lib.rt:99:5
-loop-holds : tie.Need-loop-holds Inv-loop μ-loop
-loop-holds c = ?
+-- the batch that was lent
+abbrev files : tie.Start Inv-loop μ-loop → Batch
+files c = let a = c .args in thirteen (now (a .f1)) (now (a .f2)) (now (a .f3)) (now (a .f4)) (now (a .f5)) (now (a .f6)) (now (a .f7)) (now (a .f8)) (now (a .f9)) (now (a .f10)) (now (a .f11)) (now (a .f12)) (now (a .f13))
 
--- src/lib.rt:100:13
-file-of-requires : tie.Need-file-of-requires Inv-loop μ-loop
-file-of-requires c κs = ?
+-- the file that was chosen by its number
+keyed-file : (b : Batch) (file : ℕ) (s : List ℕ) → s ≡ fileIn b file → KeyFile file (fileIn b file) → KeyFile file s
+keyed-file b file s e k = rw e k
 
--- src/lib.rt:101:13
 way-to-requires : tie.Need-way-to-requires Inv-loop μ-loop
-way-to-requires c κs = ?
+way-to-requires c κs =
+    let p = c .before .before in
+    let start = p .before .before .before .before .before .before .before .before .before .before .before .before .before .before .before .before in
+    let k = start .pre .1 (p .loop .file) (omega arith, omega arith) in
+    (keyed-file (files start) (p .loop .file) _ (c .file-of .ensures) k, p .loop .inv .2)
 
--- src/lib.rt:102:17
-mul-i : tie.Need-mul-i Inv-loop μ-loop
-mul-i c = ?
-
--- src/lib.rt:103:9
-mul-ways : tie.Need-mul-ways Inv-loop μ-loop
-mul-ways c = ?
-
--- src/lib.rt:103:9
-slice-write-ways : tie.Need-slice-write-ways Inv-loop μ-loop
-slice-write-ways c = ?
-
--- src/lib.rt:104:14
-add-ways : tie.Need-add-ways Inv-loop μ-loop
-add-ways c = ?
-
--- src/lib.rt:104:9
-mul-ways-2 : tie.Need-mul-ways-2 Inv-loop μ-loop
-mul-ways-2 c = ?
-
--- src/lib.rt:104:9
-slice-write-ways-2 : tie.Need-slice-write-ways-2 Inv-loop μ-loop
-slice-write-ways-2 c = ?
-
--- src/lib.rt:105:14
-add-ways-2 : tie.Need-add-ways-2 Inv-loop μ-loop
-add-ways-2 c = ?
-
--- src/lib.rt:105:9
-mul-ways-3 : tie.Need-mul-ways-3 Inv-loop μ-loop
-mul-ways-3 c = ?
-
--- src/lib.rt:105:9
-slice-write-ways-3 : tie.Need-slice-write-ways-3 Inv-loop μ-loop
-slice-write-ways-3 c = ?
-
--- src/lib.rt:107:9
-add-file : tie.Need-add-file Inv-loop μ-loop
-add-file c = ?
-
--- src/lib.rt:99:5
-loop-less : tie.Need-loop-less Inv-loop μ-loop
-loop-less c = ?
-
--- src/lib.rt:99:5
 loop-again : tie.Need-loop-again Inv-loop μ-loop
-loop-again c = ?
-
--- src/lib.rt:77:1
-same-length : tie.Need-same-length Inv-loop μ-loop
-same-length c = ?
-
--- src/lib.rt:77:1
-returns : tie.Need-returns Inv-loop μ-loop
-returns c = ?
+loop-again c =
+    let p = c .before .before .before in
+    let start = p .before .before .before .before .before .before .before .before .before .before .before .before .before .before .before .before in
+    let l = p .loop in
+    let w = c .way-to .ensures in
+    let size : l .file * 3 + 2 < length (l .ways) = omega (arith, l .inv .3) in
+    let way = subst (λ (s : List ℕ). Way (l .file) s (now (start .args .order)) (c .way-to .result .how) (c .way-to .result .from) (c .way-to .result .to)) (c .before .file-of .ensures) (w .0) in
+    (omega arith, omega arith, w .1, omega (arith, l .inv .3, setWay-size (l .ways) (l .file) (c .way-to .result .how) (c .way-to .result .from) (c .way-to .result .to)), ways-more (files start) (now (start .args .order)) (l .ways) (l .file) _ _ _ (l .inv .4) size way)
 
 pub survey-spec : {M : Type 1} → statement M
 survey-spec =
@@ -85,20 +51,20 @@ survey-spec =
     (tie.spec
     Inv-loop
     μ-loop
-    loop-holds
-    file-of-requires
+    (λ c. (omega arith, omega arith, omega arith, c .before .before .before .before .before .before .before .before .before .before .before .before .before .before .before .before .pre .0, ways-none _ _ _))  -- loop-holds
+    (λ c κs. search needs)  -- file-of-requires
     way-to-requires
-    mul-i
-    mul-ways
-    slice-write-ways
-    add-ways
-    mul-ways-2
-    slice-write-ways-2
-    add-ways-2
-    mul-ways-3
-    slice-write-ways-3
-    add-file
-    loop-less
+    (λ c. omega arith)  -- mul-i
+    (λ c. omega arith)  -- mul-ways
+    (λ c. omega (arith, c .before .before .before .loop .inv .3))  -- slice-write-ways
+    (λ c. omega arith)  -- add-ways
+    (λ c. omega arith)  -- mul-ways-2
+    ?  -- slice-write-ways-2
+    (λ c. omega arith)  -- add-ways-2
+    (λ c. omega arith)  -- mul-ways-3
+    ?  -- slice-write-ways-3
+    (λ c. omega arith)  -- add-file
+    (λ c. omega arith)  -- loop-less
     loop-again
-    same-length
-    returns)
+    ?  -- same-length
+    ?)

@@ -15,8 +15,15 @@ use Rattle.keys.specs.Ranks.{IsKeyed}
 use Rattle.hinted.specs.Hinted.{KeysApart}
 use Rattle.hinted.proofs.HintedLaws.{apart-once}
 use Rattle.ordered.proofs.OrderedLaws.{rising-once}
-use Rattle.thirteen.specs.Batch.{Batch, fileIn}
-use Rattle.lookup.specs.Ways.{partOf, Way, WayTo, Ways, Lasts, howOf, fromOf, toOf}
+use Rattle.thirteen.specs.Batch.{Batch, fileIn, recordsOf}
+use Rattle.find.specs.Find.{Asks}
+use Rattle.file.specs.Files.{fieldsOf}
+use Rattle.file.specs.Records.{recordsIn}
+use Rattle.lines.proofs.OrderLaws.{found-place}
+use Rattle.keys.specs.Keys.{keyFields, firstWith}
+use Rattle.keys.specs.Ranks.{rank, rankOf, Small}
+use Rattle.keys.proofs.KeyFileLaws.{first-with}
+use Rattle.lookup.specs.Ways.{rises, partOf, Way, WayTo, Ways, Lasts, Looks, howOf, fromOf, toOf, foundOr}
 
 -- no part at all is no index
 none-there : (order : List ℕ) → length (partOf order 0 0) ≡ 0
@@ -104,9 +111,6 @@ ways-more b order ways file how from to w h new k l m = go (ℕ-discrete k file)
         (other ways file how from to (k * 3 + 2) (λ z. omega arith) (λ z. omega arith) (λ z. e (omega arith)))
         (w k l (omega arith))
 
-pub ways-none : (b : Batch) (order ways : List ℕ) → WaysBelow b order ways 2
-ways-none b order ways k l m = absurd (omega arith)
-
 pub ways-all : (b : Batch) (order ways : List ℕ) (file : ℕ) → WaysBelow b order ways file → 11 ≤ file → Ways b order ways
 ways-all b order ways file w h k f = w k (f .0) (omega (arith, f .1))
 
@@ -117,3 +121,22 @@ lasts-at b last file at l h p = record { size = rw (length-set last file at) (l 
     go : (k : ℕ) → IsKeyed k → Dec (k ≡ file) → PlaceIn k (fileIn b k) (getD (set last file at) k 0)
     go k f (yes e) = rw (e, getD-set-same last file at 0 (omega (arith, l .size))) p
     go k f (no e) = rw (getD-set-other last file k at 0 e) (l .place k f)
+
+-- what was found by a key is where a record starts
+found-there : (file : ℕ) (s k : List ℕ) (p : ℕ) → KeyFile file s → Small k → length k ≡ length (keyFields file) → firstWith file k 0 (recordsIn (fieldsOf file) s) ≡ At p → PlaceIn file s p
+found-there file s k p f small size e =
+    found-place (fieldsOf file) (rankOf file) s (rank k) p (f .legal) (sym (first-with file k (f .keyed) small size 0 (recordsIn (fieldsOf file) s) (f .keys)) ∙ e) .place
+
+-- what was found is remembered
+pub lasts-found : (b : Batch) (order ways last : List ℕ) (file : ℕ) (k : List ℕ) → Looks b order ways last → IsKeyed file → Small k → length k ≡ length (keyFields file)
+    → (found : Found) → found ≡ firstWith file k 0 (recordsOf b file) → Lasts b (set last file (foundOr found (getD last file 0)))
+unfolding foundOr
+lasts-found b order ways last file k l f small size (At p) e =
+    lasts-at b last file p (l .lasts) (omega (arith, f .1)) (found-there file (fileIn b file) k p (l .routes file f .serves .keyed) small size (sym e))
+lasts-found b order ways last file k l f small size Nothing e = lasts-at b last file (getD last file 0) (l .lasts) (omega (arith, f .1)) (l .lasts .place file f)
+
+-- what a search in a file asks, where s is that file
+pub asks-of : (b : Batch) (order ways last : List ℕ) (file count : ℕ) (s part : List ℕ) (how : Bool) → Looks b order ways last → IsKeyed file → length (keyFields file) ≡ count
+    → s ≡ fileIn b file → part ≡ partOf order (fromOf ways file) (toOf ways file) → how ≡ rises (howOf ways file) → Asks file s how part (getD last file 0) count
+asks-of b order ways last file count s part how l f size e p h =
+    rw (e, p, h) (record { serves = l .routes file f .serves; place = l .lasts .place file f; numbers = size })

@@ -1,21 +1,21 @@
 -- `lookup::survey` meets its contract. The loop's invariant: the ways to the files below `file` are kept.
-use mathlib.Core.Path.{_≡_, sym, subst, _∙_}
+use mathlib.Core.Path.{_≡_, refl, subst, _∙_}
 use mathlib.Core.List.{List}
 use Prim.Native.Nat.{ℕ, _+_, _-_, _*_, _≤_, _<_}
 use native.Mathlib.Omega.{arith}
 use borrow.Author.Needs.{needs}
-use lib.ListN.{length}
+use lib.ListN.{length, set, length-set}
 use denote.Ref.{now}
 use Rattle.keys.specs.KeyFiles.{KeyFile}
 use Rattle.thirteen.specs.Batch.{Batch, thirteen, fileIn}
 use Rattle.lookup.specs.Ways.{Way}
-use Rattle.lookup.proofs.WayLaws.{WaysBelow, setWay-size, ways-more, ways-none, ways-all}
+use Rattle.lookup.proofs.WayLaws.{WaysBelow, setWay-size, ways-more, ways-all}
 use Rattle.lookup.proofs.survey.Statement.{statement}
 use Rattle.lookup.proofs.survey.Tie as tie
 
 abbrev Inv-loop : tie.InvT-loop
 Inv-loop f1 f2 f3 f4 f5 f6 f7 f8 f9 f10 f11 f12 f13 order ways₀ from₀ file₀ ways from file =
-    (2 ≤ file) × (file ≤ 11) × (from ≤ length order) × (33 ≤ length ways) × WaysBelow (thirteen f1 f2 f3 f4 f5 f6 f7 f8 f9 f10 f11 f12 f13) order ways file
+    (2 ≤ file) × (file ≤ 11) × (from ≤ length order) × (33 ≤ length ways) × (length ways ≡ length ways₀) × WaysBelow (thirteen f1 f2 f3 f4 f5 f6 f7 f8 f9 f10 f11 f12 f13) order ways file
 
 abbrev μ-loop : tie.MeasureT-loop
 μ-loop f1 f2 f3 f4 f5 f6 f7 f8 f9 f10 f11 f12 f13 order ways₀ from₀ file₀ ways from file = 11 - file
@@ -43,7 +43,8 @@ loop-again c =
     let w = c .way-to .ensures in
     let size : l .file * 3 + 2 < length (l .ways) = omega (arith, l .inv .3) in
     let way = subst (λ (s : List ℕ). Way (l .file) s (now (start .args .order)) (c .way-to .result .how) (c .way-to .result .from) (c .way-to .result .to)) (c .before .file-of .ensures) (w .0) in
-    (omega arith, omega arith, w .1, omega (arith, l .inv .3, setWay-size (l .ways) (l .file) (c .way-to .result .how) (c .way-to .result .from) (c .way-to .result .to)), ways-more (files start) (now (start .args .order)) (l .ways) (l .file) _ _ _ (l .inv .4) size way)
+    let kept = setWay-size (l .ways) (l .file) (c .way-to .result .how) (c .way-to .result .from) (c .way-to .result .to) in
+    (omega arith, omega arith, w .1, omega (arith, l .inv .3, kept), kept ∙ l .inv .4, ways-more (files start) (now (start .args .order)) (l .ways) (l .file) _ _ _ (l .inv .5) size way)
 
 pub survey-spec : {M : Type 1} → statement M
 survey-spec =
@@ -51,7 +52,7 @@ survey-spec =
     (tie.spec
     Inv-loop
     μ-loop
-    (λ c. (omega arith, omega arith, omega arith, c .before .before .before .before .before .before .before .before .before .before .before .before .before .before .before .before .pre .0, ways-none _ _ _))  -- loop-holds
+    (λ c. (omega arith, omega arith, omega arith, c .before .before .before .before .before .before .before .before .before .before .before .before .before .before .before .pre .0, refl, λ k l m. absurd (omega arith)))  -- loop-holds
     (λ c κs. search needs)  -- file-of-requires
     way-to-requires
     (λ c. omega arith)  -- mul-i
@@ -59,12 +60,15 @@ survey-spec =
     (λ c. omega (arith, c .before .before .before .loop .inv .3))  -- slice-write-ways
     (λ c. omega arith)  -- add-ways
     (λ c. omega arith)  -- mul-ways-2
-    ?  -- slice-write-ways-2
+    (λ c. let l = c .before .before .before .loop in omega (arith, l .inv .3, length-set (l .ways) (l .file * 3) (c .way-to .result .how)))  -- slice-write-ways-2
     (λ c. omega arith)  -- add-ways-2
     (λ c. omega arith)  -- mul-ways-3
-    ?  -- slice-write-ways-3
+    (λ c.
+    let l = c .before .before .before .loop in
+    let w = c .way-to .result in
+    omega (arith, l .inv .3, length-set (set (l .ways) (l .file * 3) (w .how)) (l .file * 3 + 1) (w .from), length-set (l .ways) (l .file * 3) (w .how)))  -- slice-write-ways-3
     (λ c. omega arith)  -- add-file
     (λ c. omega arith)  -- loop-less
     loop-again
-    ?  -- same-length
-    ?)
+    (λ c. c .before .loop .inv .4)  -- same-length
+    (λ c. let l = c .before .loop in ways-all _ _ (l .ways) (l .file) (l .inv .5) (omega arith)))  -- returns

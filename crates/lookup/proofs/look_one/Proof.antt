@@ -1,0 +1,62 @@
+-- `lookup::look_one` meets its contract: the file is chosen by its number, and the search goes the way that is kept for it.
+use mathlib.Core.Path.{_≡_, refl, sym, ap, _∙_}
+use mathlib.Core.List.{List, [], _∷_}
+use Prim.Native.Nat.{ℕ, _+_, _*_, _≤_, _<_}
+use native.Mathlib.Omega.{arith}
+use borrow.Author.Needs.{needs}
+use lib.ListN.{length, length-set}
+use denote.Ref.{now}
+use Rattle.file.specs.Files.{fieldsOf}
+use Rattle.file.specs.Records.{recordsIn}
+use Rattle.keys.specs.Keys.{firstWith}
+use Rattle.thirteen.specs.Batch.{Batch, thirteen, recordsOf}
+use Rattle.find.proofs.FindLaws.{small-one}
+use Rattle.lookup.proofs.WayLaws.{asks-of, lasts-found}
+use Rattle.lookup.proofs.look_one.Statement.{statement}
+use Rattle.lookup.proofs.look_one.Tie as tie
+
+-- the batch that was lent
+abbrev files : tie.Start → Batch
+files c = let a = c .args in thirteen (now (a .f1)) (now (a .f2)) (now (a .f3)) (now (a .f4)) (now (a .f5)) (now (a .f6)) (now (a .f7)) (now (a .f8)) (now (a .f9)) (now (a .f10)) (now (a .f11)) (now (a .f12)) (now (a .f13))
+
+index-of-requires : tie.Need-index-of-requires
+index-of-requires c κs =
+    let start = c .before .before .before .before .before .before .before .before .before .before .before .before .before .before .before .before .before in
+    let l = start .pre .0 in
+    let w = l .routes (start .args .file) (start .pre .1) in
+    (omega (arith, start .pre .1 .1), l .size, w .ends, w .near)
+
+with-one-requires : tie.Need-with-one-requires
+with-one-requires c κs =
+    let start = c .before .before .before .before .before .before .before .before .before .before .before .before .before .before .before .before .before .before .before .before in
+    let a = start .args in
+    (asks-of (files start) (now (a .order)) (now (a .ways)) (now (a .last)) (a .file) 1 _ _ _ (start .pre .0) (start .pre .1) (start .pre .2) (c .before .before .before .file-of .ensures) (c .before .before .index-of .ensures) refl, start .pre .3)
+
+returns : tie.Need-returns
+returns c =
+    let start = c .before .before .before .before .before .before .before .before .before .before .before .before .before .before .before .before .before .before .before .before .before .before .before in
+    let a = start .args in
+    let e : c .before .before .with-one .result ≡ firstWith (a .file) (a .a ∷ []) 0 (recordsOf (files start) (a .file)) =
+    c .before .before .with-one .ensures ∙ ap (λ (s : List ℕ). firstWith (a .file) (a .a ∷ []) 0 (recordsIn (fieldsOf (a .file)) s)) (c .before .before .before .before .before .before .file-of .ensures) in
+    let z : length (a .a ∷ []) ≡ 1 = refl in
+    (e, rw (c .found-or .ensures) (lasts-found (files start) (now (a .order)) (now (a .ways)) (now (a .last)) (a .file) (a .a ∷ []) (start .pre .0) (start .pre .1) (small-one (a .a) (start .pre .3)) (z ∙ sym (start .pre .2)) _ e))
+
+pub look-one-spec : {M : Type 1} → statement M
+look-one-spec =
+    tie.close
+    (tie.spec
+    (λ c κs. search needs)  -- file-of-requires
+    index-of-requires
+    (λ c. search needs)  -- mul-with-one
+    (λ c. search needs)  -- mul-with-one-2
+    (λ c. search needs)  -- shared-slice-read-with-one
+    (λ c. search needs)  -- mul-with-one-3
+    (λ c. let start = c .before .before .before .before .before .before .before .before .before .before .before .before .before .before .before .before .before .before .before in omega (arith, start .pre .0 .lasts .size, start .pre .1 .1))  -- slice-read-with-one
+    with-one-requires
+    (λ c. let start = c .before .before .before .before .before .before .before .before .before .before .before .before .before .before .before .before .before .before .before .before .before .before in omega (arith, start .pre .1 .1))  -- mul-found-or
+    (λ c. let start = c .before .before .before .before .before .before .before .before .before .before .before .before .before .before .before .before .before .before .before .before .before .before in omega (arith, start .pre .0 .lasts .size, start .pre .1 .1))  -- slice-read-found-or
+    (λ c κs. search needs)  -- found-or-requires
+    (λ c. let start = c .before .before .before .before .before .before .before .before .before .before .before .before .before .before .before .before .before .before .before .before .before .before .before in omega (arith, start .pre .1 .1))  -- mul-last
+    (λ c. let start = c .before .before .before .before .before .before .before .before .before .before .before .before .before .before .before .before .before .before .before .before .before .before .before in omega (arith, start .pre .0 .lasts .size, start .pre .1 .1))  -- slice-write-last
+    (λ c. search needs)  -- same-length
+    returns)

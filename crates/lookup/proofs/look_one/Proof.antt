@@ -51,9 +51,9 @@ look-one-spec =
     (λ c. search needs)  -- mul-with-one-2
     (λ c. search needs)  -- shared-slice-read-with-one
     (λ c. search needs)  -- mul-with-one-3
-    (λ c. let start = c .before .before .before .before .before .before .before .before .before .before .before .before .before .before .before .before .before .before .before in omega (arith, start .pre .0 .lasts .size, start .pre .1 .1))  -- slice-read-with-one
+    (λ c. let start = c .before .before .before .before .before .before .before .before .before .before .before .before .before .before .before .before .before .before .before .before in omega (arith, start .pre .0 .lasts .size, start .pre .1 .1))  -- slice-read-with-one
     with-one-requires
-    (λ c. let start = c .before .before .before .before .before .before .before .before .before .before .before .before .before .before .before .before .before .before .before .before .before .before in omega (arith, start .pre .1 .1))  -- mul-found-or
+    (λ c. let start = c .before .before .before .before .before .before .before .before .before .before .before .before .before .before .before .before .before .before .before .before .before in omega (arith, start .pre .1 .1))  -- mul-found-or
     (λ c. let start = c .before .before .before .before .before .before .before .before .before .before .before .before .before .before .before .before .before .before .before .before .before .before in omega (arith, start .pre .0 .lasts .size, start .pre .1 .1))  -- slice-read-found-or
     (λ c κs. search needs)  -- found-or-requires
     (λ c. let start = c .before .before .before .before .before .before .before .before .before .before .before .before .before .before .before .before .before .before .before .before .before .before .before in omega (arith, start .pre .1 .1))  -- mul-last

@@ -51,9 +51,9 @@ look-two-spec =
     (λ c. search needs)  -- mul-with-two-2
     (λ c. search needs)  -- shared-slice-read-with-two
     (λ c. search needs)  -- mul-with-two-3
-    (λ c. let start = c .before .before .before .before .before .before .before .before .before .before .before .before .before .before .before .before .before .before .before in omega (arith, start .pre .0 .lasts .size, start .pre .1 .1))  -- slice-read-with-two
+    (λ c. let start = c .before .before .before .before .before .before .before .before .before .before .before .before .before .before .before .before .before .before .before .before in omega (arith, start .pre .0 .lasts .size, start .pre .1 .1))  -- slice-read-with-two
     with-two-requires
-    (λ c. let start = c .before .before .before .before .before .before .before .before .before .before .before .before .before .before .before .before .before .before .before .before .before .before in omega (arith, start .pre .1 .1))  -- mul-found-or
+    (λ c. let start = c .before .before .before .before .before .before .before .before .before .before .before .before .before .before .before .before .before .before .before .before .before in omega (arith, start .pre .1 .1))  -- mul-found-or
     (λ c. let start = c .before .before .before .before .before .before .before .before .before .before .before .before .before .before .before .before .before .before .before .before .before .before in omega (arith, start .pre .0 .lasts .size, start .pre .1 .1))  -- slice-read-found-or
     (λ c κs. search needs)  -- found-or-requires
     (λ c. let start = c .before .before .before .before .before .before .before .before .before .before .before .before .before .before .before .before .before .before .before .before .before .before .before in omega (arith, start .pre .1 .1))  -- mul-last

@@ -14,7 +14,7 @@ ghost use Rattle.keys.specs.Keys.{none};
 ghost use Rattle.keys.specs.Ranks.{rankOf, rankKey};
 ghost use Rattle.lines.specs.Index.{Start};
 ghost use Rattle.keys.specs.KeyFiles.{KeyFile};
-ghost use Rattle.hinted.specs.Hinted.{IsIndex, Looked, Lower};
+ghost use Rattle.hinted.specs.Hinted.{Goes, IsIndex, Looked, Lower};
 
 // How many records a file has.
 pub fn count(file: u64, s: &[u8]) -> usize
@@ -46,7 +46,8 @@ fn is_start(file: u64, s: &[u8], x: usize) -> bool
 
 // How a record with key k at x goes behind one with key j at w: 0 if it doesn't, 1 with the same key, 2 with one above.
 fn step(j: Key, w: usize, k: Key, x: usize) -> usize
-    requires { ⌜ (j .lo < none) × (k .lo < none) ⌝ }
+    requires { ⌜ (j .lo < none) × (k .lo < none) × (w < 2 ^ 32) × (x < 2 ^ 32) ⌝ }
+    ensures { λ r. ⌜ Goes (rankKey j) w (rankKey k) x r ⌝ }
 {
     if less(j, k) {
         return 2;
@@ -58,6 +59,16 @@ fn step(j: Key, w: usize, k: Key, x: usize) -> usize
         return 1;
     }
     0
+}
+
+// The lesser of two.
+fn lesser(a: usize, b: usize) -> usize
+    ensures { λ r. ⌜ (r ≤ a) × (r ≤ b) ⌝ }
+{
+    if a < b {
+        return a;
+    }
+    b
 }
 
 // Looks at a list once. As many entries as records, each where a record starts, no two the same: so none is missing.
@@ -85,9 +96,7 @@ pub fn look_at(file: u64, s: &[u8], order: &[u32]) -> usize
         if how == 0 {
             return 0;
         }
-        if how == 1 {
-            kind = 1;
-        }
+        kind = lesser(kind, how);
         was = x;
         last = k;
         i += 1;

@@ -31,25 +31,66 @@ fn way_to(file: u64, s: &[u8], order: &[u32], from: usize) -> Route
     ensures { λ r. ⌜ Way file (now (s .entry)) (now (order .entry)) (r .how) (r .from) (r .to) × (r .next ≤ length (now (order .entry))) ⌝ }
 {
     if rising(file, s) {
-        return Route { how: 1, from: 0, to: 0, next: from };
+        return Route {
+            how: 1,
+            from: 0,
+            to: 0,
+            next: from,
+        };
     }
     let n = count(file, s);
     if n > order.len() - from {
-        return Route { how: 0, from: 0, to: 0, next: order.len() };
+        return Route {
+            how: 0,
+            from: 0,
+            to: 0,
+            next: order.len(),
+        };
     }
     let to = from + n;
     let kind = look_at(file, s, &order[from..to]);
     if kind == 0 {
-        return Route { how: 0, from: 0, to: 0, next: to };
+        return Route {
+            how: 0,
+            from: 0,
+            to: 0,
+            next: to,
+        };
     }
     if kind == 1 {
-        return Route { how: 3, from: from, to: to, next: to };
+        return Route {
+            how: 3,
+            from: from,
+            to: to,
+            next: to,
+        };
     }
-    Route { how: 2, from: from, to: to, next: to }
+    Route {
+        how: 2,
+        from: from,
+        to: to,
+        next: to,
+    }
 }
 
 // inner: the ways to all keyed files
-pub fn survey<'a>(f1: &'a [u8], f2: &'a [u8], f3: &'a [u8], f4: &'a [u8], f5: &'a [u8], f6: &'a [u8], f7: &'a [u8], f8: &'a [u8], f9: &'a [u8], f10: &'a [u8], f11: &'a [u8], f12: &'a [u8], f13: &'a [u8], order: &[u32], ways: &mut [usize; 33])
+pub fn survey<'a>(
+    f1: &'a [u8],
+    f2: &'a [u8],
+    f3: &'a [u8],
+    f4: &'a [u8],
+    f5: &'a [u8],
+    f6: &'a [u8],
+    f7: &'a [u8],
+    f8: &'a [u8],
+    f9: &'a [u8],
+    f10: &'a [u8],
+    f11: &'a [u8],
+    f12: &'a [u8],
+    f13: &'a [u8],
+    order: &[u32],
+    ways: &mut [usize; 33],
+)
     requires { ⌜ KeyFiles (thirteen (now f1) (now f2) (now f3) (now f4) (now f5) (now f6) (now f7) (now f8) (now f9) (now f10) (now f11) (now f12) (now f13)) ⌝ }
     ensures { λ _. ⌜ Ways (thirteen (now (f1 .entry)) (now (f2 .entry)) (now (f3 .entry)) (now (f4 .entry)) (now (f5 .entry)) (now (f6 .entry)) (now (f7 .entry)) (now (f8 .entry)) (now (f9 .entry)) (now (f10 .entry)) (now (f11 .entry)) (now (f12 .entry)) (now (f13 .entry))) (now (order .entry)) (now (ways .exit)) ⌝ }
 {
@@ -92,7 +133,26 @@ fn remember(last: &mut [usize; 11], file: u64, found: Found)
 }
 
 // inner: the first record of a file whose key is one number
-pub fn look_one<'a>(file: u64, a: u64, f1: &'a [u8], f2: &'a [u8], f3: &'a [u8], f4: &'a [u8], f5: &'a [u8], f6: &'a [u8], f7: &'a [u8], f8: &'a [u8], f9: &'a [u8], f10: &'a [u8], f11: &'a [u8], f12: &'a [u8], f13: &'a [u8], order: &[u32], ways: &[usize; 33], last: &mut [usize; 11]) -> Found
+pub fn look_one<'a>(
+    file: u64,
+    a: u64,
+    f1: &'a [u8],
+    f2: &'a [u8],
+    f3: &'a [u8],
+    f4: &'a [u8],
+    f5: &'a [u8],
+    f6: &'a [u8],
+    f7: &'a [u8],
+    f8: &'a [u8],
+    f9: &'a [u8],
+    f10: &'a [u8],
+    f11: &'a [u8],
+    f12: &'a [u8],
+    f13: &'a [u8],
+    order: &[u32],
+    ways: &[usize; 33],
+    last: &mut [usize; 11],
+) -> Found
     requires { ⌜ Looks (thirteen (now f1) (now f2) (now f3) (now f4) (now f5) (now f6) (now f7) (now f8) (now f9) (now f10) (now f11) (now f12) (now f13)) (now order) (now ways) (now last) × IsKeyed file × (length (keyFields file) ≡ 1) × (a < none) ⌝ }
     ensures { λ r. ⌜ (r ≡ firstWith file (a ∷ []) 0 (recordsOf (thirteen (now (f1 .entry)) (now (f2 .entry)) (now (f3 .entry)) (now (f4 .entry)) (now (f5 .entry)) (now (f6 .entry)) (now (f7 .entry)) (now (f8 .entry)) (now (f9 .entry)) (now (f10 .entry)) (now (f11 .entry)) (now (f12 .entry)) (now (f13 .entry))) file)) × Lasts (thirteen (now (f1 .entry)) (now (f2 .entry)) (now (f3 .entry)) (now (f4 .entry)) (now (f5 .entry)) (now (f6 .entry)) (now (f7 .entry)) (now (f8 .entry)) (now (f9 .entry)) (now (f10 .entry)) (now (f11 .entry)) (now (f12 .entry)) (now (f13 .entry))) (now (last .exit)) ⌝ }
 {
@@ -105,7 +165,27 @@ pub fn look_one<'a>(file: u64, a: u64, f1: &'a [u8], f2: &'a [u8], f3: &'a [u8],
 }
 
 // inner: the same by two numbers
-pub fn look_two<'a>(file: u64, a: u64, b: u64, f1: &'a [u8], f2: &'a [u8], f3: &'a [u8], f4: &'a [u8], f5: &'a [u8], f6: &'a [u8], f7: &'a [u8], f8: &'a [u8], f9: &'a [u8], f10: &'a [u8], f11: &'a [u8], f12: &'a [u8], f13: &'a [u8], order: &[u32], ways: &[usize; 33], last: &mut [usize; 11]) -> Found
+pub fn look_two<'a>(
+    file: u64,
+    a: u64,
+    b: u64,
+    f1: &'a [u8],
+    f2: &'a [u8],
+    f3: &'a [u8],
+    f4: &'a [u8],
+    f5: &'a [u8],
+    f6: &'a [u8],
+    f7: &'a [u8],
+    f8: &'a [u8],
+    f9: &'a [u8],
+    f10: &'a [u8],
+    f11: &'a [u8],
+    f12: &'a [u8],
+    f13: &'a [u8],
+    order: &[u32],
+    ways: &[usize; 33],
+    last: &mut [usize; 11],
+) -> Found
     requires { ⌜ Looks (thirteen (now f1) (now f2) (now f3) (now f4) (now f5) (now f6) (now f7) (now f8) (now f9) (now f10) (now f11) (now f12) (now f13)) (now order) (now ways) (now last) × IsKeyed file × (length (keyFields file) ≡ 2) × (a < none) × (b < none) ⌝ }
     ensures { λ r. ⌜ (r ≡ firstWith file (a ∷ b ∷ []) 0 (recordsOf (thirteen (now (f1 .entry)) (now (f2 .entry)) (now (f3 .entry)) (now (f4 .entry)) (now (f5 .entry)) (now (f6 .entry)) (now (f7 .entry)) (now (f8 .entry)) (now (f9 .entry)) (now (f10 .entry)) (now (f11 .entry)) (now (f12 .entry)) (now (f13 .entry))) file)) × Lasts (thirteen (now (f1 .entry)) (now (f2 .entry)) (now (f3 .entry)) (now (f4 .entry)) (now (f5 .entry)) (now (f6 .entry)) (now (f7 .entry)) (now (f8 .entry)) (now (f9 .entry)) (now (f10 .entry)) (now (f11 .entry)) (now (f12 .entry)) (now (f13 .entry))) (now (last .exit)) ⌝ }
 {

@@ -6,18 +6,21 @@ use mathlib.Core.List.{List, [], _∷_, _++_}
 use Prim.Native.Nat.{ℕ, zero, suc, _+_, _*_, _≤_, _<_}
 use native.Mathlib.Omega.{arith}
 use lib.Dec.{eqb}
-use lib.ListN.{length, getD, take}
+use lib.ListN.{length, getD, drop}
 use lib.Seq.{ext-getD}
 use borrow.Author.Tests.{eq-eqb, ne-eqb, eqb-true, eqb-false}
-use Rattle.laws.specs.Tests.{pick, both, oneOf, either, never, clash, both-left, both-right, both-true}
+use Rattle.laws.specs.Tests.{pick, both, oneOf, either, never, both-left, both-right}
+use Rattle.file.specs.Files.{fieldsOf}
+use Rattle.file.specs.Records.{recordsIn}
 use Rattle.file.specs.Format.{Fields, writtenRecord}
 use Rattle.field.specs.Values.{isDigits, value}
 use Rattle.field.specs.Names.{field}
 use Rattle.field.proofs.ValueLaws.{digits-bound}
-use Rattle.walk.specs.declared.Found.{Found}
+use Rattle.walk.specs.Walk.{RecordAt}
+use Rattle.walk.proofs.WalkLaws.{count-left, some-left}
 use Rattle.walk.specs.declared.Found.the-variants.{At, Nothing}
 use Rattle.keys.specs.Keys.{keyFields, numbers, keyOf, same, has, firstWith, ofTrip, third, none}
-use Rattle.keys.specs.Ranks.{rank, rankOf, Numbers, AllKeyed, Small, IsKeyed}
+use Rattle.keys.specs.Ranks.{rank, rankOf, Numbers, AllKeyed, Small, IsKeyed, KeyAt}
 use Rattle.keys.proofs.TableLaws.{one-of, key-fields}
 
 -- a key has a number for each key field
@@ -73,7 +76,7 @@ small-at [] p i = omega arith
 small-at (a ∷ j) p zero = p .0
 small-at (a ∷ j) p (suc i) = small-at j (p .1) i
 
--- two keys of one size, whose numbers are small
+-- two keys of one size, whose numbers are small: both have one number, or neither does
 module _ (j k : List ℕ) (p : Small j) (q : Small k) (l : length j ≡ length k) where
   by-size : {P : Type 0} → ((rank j ≡ getD j 0 0 * none) × (getD j 1 0 ≡ 0) × (getD j 2 0 ≡ 0) → (rank k ≡ getD k 0 0 * none) × (getD k 1 0 ≡ 0) × (getD k 2 0 ≡ 0) → P)
       → (rank j ≡ (getD j 0 0 * none + getD j 1 0) * none + getD j 2 0 → rank k ≡ (getD k 0 0 * none + getD k 1 0) * none + getD k 2 0 → P) → P
@@ -127,6 +130,22 @@ unfolding AllKeyed
 keyed-tail file [] b h = h
 keyed-tail file (r ∷ a) b h = keyed-tail file a b (h .1)
 
+-- where each record from `at` on has a key, so has the one that starts there
+pub keyed-at : (file : ℕ) (s : List ℕ) (at : ℕ) → IsKeyed file → RecordAt (fieldsOf file) s at → AllKeyed file (recordsIn (fieldsOf file) (drop at s))
+    → KeyAt file s at
+keyed-at file s at k h a =
+    let c = some-left (fieldsOf file) s at (h .legal) (h .more) in
+    record { keyed = k; here = h; numbers = go (recordsIn (fieldsOf file) (drop at s)) (omega (arith, count-left (fieldsOf file) s at (h .legal))) a }
+  where
+    go : (rs : List Fields) → 1 ≤ length rs → AllKeyed file rs → Numbers (keyFields file) (getD rs 0 [])
+    go [] l b = absurd (omega arith)
+    go (r ∷ rs) l b = keyed-head file r rs b
+
+-- the third number of a key, like each of them, is below a thousand million
+pub third-small : (file : ℕ) (r : Fields) → Numbers (keyFields file) r → third file r < none
+unfolding third
+third-small file r n = small-at (keyOf file r) (key-small (keyFields file) r n) 2
+
 -- The records of a trip, in a file whose keys have three numbers: their ranks are those from the trip's first on, in the order of the
 -- third number.
 module _ (file line trip : ℕ) (r : Fields) (three : keyFields file ≡ 1 ∷ 2 ∷ 3 ∷ []) where
@@ -152,19 +171,15 @@ module _ (file line trip : ℕ) (r : Fields) (three : keyFields file ≡ 1 ∷ 2
       let b = eqb-true (value (field 2 r)) trip (both-left (eqb (value (field 2 r)) trip) true f) in
       rw (← a, ← b) trip-rank
 
-  pub third-small : Numbers (keyFields file) r → third file r < none
-  unfolding third
-  third-small n = small-at (keyOf file r) (key-small (keyFields file) r n) 2
-
   pub of-trip : Numbers (keyFields file) r → trip < none → (line * none + trip) * none ≤ rankOf file r
       → rankOf file r < (line * none + trip) * none + none → ofTrip file line trip r ≡ true
   of-trip n h low high =
       let y = digits-bound 1 9 (field 2 r) (trip-number n) in
-      let a : value (field 1 r) ≡ line = omega (arith, trip-rank, third-small n) in
-      let b : value (field 2 r) ≡ trip = omega (arith, trip-rank, third-small n) in
+      let a : value (field 1 r) ≡ line = omega (arith, trip-rank, third-small file r n) in
+      let b : value (field 2 r) ≡ trip = omega (arith, trip-rank, third-small file r n) in
       trip-same ∙ rw (eq-eqb (value (field 1 r)) line a, eq-eqb (value (field 2 r)) trip b)
 
--- a record that is found is one that has the key
+-- a record is found exactly if one has the key
 pub has-found : (file : ℕ) (k : List ℕ) (at : ℕ) (rs : List Fields) (p : ℕ) → firstWith file k at rs ≡ At p → has file k rs ≡ true
 unfolding has firstWith
 has-found file k at [] p e = let z : _≡_ {A = ℕ} 0 1 = cc in absurd (omega arith)

@@ -11,11 +11,10 @@ use Rattle.file.specs.Format.{Text, Fields}
 use Rattle.field.specs.Values.{isDigits, value}
 use Rattle.field.specs.Names.{field}
 use Rattle.field.proofs.ValueLaws.{digits-are, digits-bound}
-use Rattle.walk.proofs.StartLaws.{textStart, TextHere, start-first}
+use Rattle.walk.proofs.StartLaws.{textStart, start-first}
 use Rattle.walk.proofs.WalkLaws.{text-at, near-at}
 use Rattle.keys.specs.Keys.{keyFields, numbers, none}
-use Rattle.keys.specs.Ranks.{rank, rankOf, rankKey, KeyIs, Numbers, IsKeyed, KeyAt, recordAt, digitsFrom, NumberIs}
-use Rattle.keys.specs.declared.Key.{Key}
+use Rattle.keys.specs.Ranks.{rank, rankOf, rankKey, KeyIs, KeyAt, recordAt, digitsFrom, NumberIs}
 use Rattle.keys.proofs.TableLaws.{keyed-one, keyed-fields, number-one, number-two, number-three}
 use Rattle.keys.proofs.DigitLaws.{digits-text}
 

@@ -16,19 +16,19 @@ use Rattle.walk.specs.declared.Found.the-variants.{At, Nothing}
 unfoldable pub keyTable : List (List ℕ)
 keyTable =
     []
-    ∷ []
-    ∷ (1 ∷ [])
-    ∷ (1 ∷ [])
-    ∷ (1 ∷ [])
-    ∷ (1 ∷ [])
-    ∷ (1 ∷ 2 ∷ [])
-    ∷ (1 ∷ 2 ∷ [])
-    ∷ (1 ∷ 2 ∷ 3 ∷ [])
-    ∷ (1 ∷ 2 ∷ [])
-    ∷ (1 ∷ 2 ∷ 3 ∷ [])
-    ∷ []
-    ∷ []
-    ∷ []
+    ∷ []  -- VerzeJDF
+    ∷ (1 ∷ [])  -- Zastavky
+    ∷ (1 ∷ [])  -- Pevnykod
+    ∷ (1 ∷ [])  -- Dopravci
+    ∷ (1 ∷ [])  -- Linky
+    ∷ (1 ∷ 2 ∷ [])  -- Spoje
+    ∷ (1 ∷ 2 ∷ [])  -- Zaslinky
+    ∷ (1 ∷ 2 ∷ 3 ∷ [])  -- Zasspoje
+    ∷ (1 ∷ 2 ∷ [])  -- Udaje
+    ∷ (1 ∷ 2 ∷ 3 ∷ [])  -- Caskody
+    ∷ []  -- Altdop
+    ∷ []  -- Altlinky
+    ∷ []  -- Mistenky
     ∷ []
 
 -- the key fields of a file

@@ -1,8 +1,6 @@
 // A record's key: document 01, "The batch". Keys compare numbers by value. All of it is inner: what each function means is its definition
 // in specs/Ranks.antt.
 ghost use mathlib.Core.Path.{_≡_};
-ghost use mathlib.Core.Bool.{true};
-ghost use mathlib.Core.List.{_∷_, _++_};
 ghost use Prim.Native.Nat.{_+_, _*_, _≤_, _<_};
 ghost use lib.Dec.{ltb, eqb};
 ghost use lib.ListN.{length, drop};
@@ -42,7 +40,8 @@ fn number_at(s: &[u8], at: usize) -> Number
     Number { value: v, end: i }
 }
 
-// The key of the record that starts at `at`: its first one, two or three fields.
+// The key of the record that starts at `at`: its first field in files 2 to 5, its first two in files 6, 7 and 9, its first three in files 8
+// and 10.
 pub fn key_at(file: u64, s: &[u8], at: usize) -> Key
     requires { ⌜ KeyAt file (now s) at ⌝ }
     ensures { λ k. ⌜ KeyIs (rankOf file (recordAt file (now (s .entry)) at)) k ⌝ }

@@ -10,9 +10,6 @@ use Rattle.keys.proofs.TableLaws.{keyed-two, keyed-nine, keyed-three}
 use Rattle.keys.proofs.ReadLaws.{here-most, first-here, first-small, first-room, key-one, second-here, second-small, second-room, key-two, third-here, key-three}
 use Rattle.keys.proofs.key_at.Statement.{statement}
 use Rattle.keys.proofs.key_at.Tie as tie
-use Rattle.keys.proofs.key_at.Reads as reads
-use Rattle.keys.proofs.key_at.Lts as lts
-use Rattle.keys.proofs.number_at.Reads as number-at-reads
 
 number-at-requires : tie.Need-number-at-requires
 number-at-requires c κs =

@@ -2,14 +2,11 @@
 -- passed are worth less than 10 to their number, so no sum wraps.
 use Prim.Native.Nat.{_-_}
 use native.Mathlib.Omega.{arith}
-use mathlib.Core.Path.{refl}
-use lib.ListN.{length, getD, drop}
+use lib.ListN.{length}
 use denote.Ref.{now}
 use Rattle.keys.proofs.DigitLaws.{Passed, passed-none, passed-some, passed-one, passed-all, digits-low, digits-high, digits-end}
 use Rattle.keys.proofs.number_at.Statement.{statement}
 use Rattle.keys.proofs.number_at.Tie as tie
-use Rattle.keys.proofs.number_at.Reads as reads
-use Rattle.keys.proofs.number_at.Lts as lts
 
 abbrev Inv-loop : tie.InvT-loop
 Inv-loop s at v₀ i₀ v i = Passed s at v i

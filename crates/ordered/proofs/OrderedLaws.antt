@@ -1,0 +1,111 @@
+-- Laws of a file whose keys rise: what a pass over it has seen, what a search for the first key from x on has passed, and what its callers
+-- learn of the place that is found.
+use mathlib.Core.Path.{_≡_, refl, sym, ap, _∙_}
+use mathlib.Core.Bool.{Bool, true, false}
+use mathlib.Core.List.{List, [], _∷_, _++_}
+use Prim.Native.Nat.{ℕ, _+_, _≤_, _<_}
+use native.Mathlib.Omega.{arith}
+use lib.ListN.{length}
+use borrow.Author.Tests.{lt-leb}
+use Rattle.file.specs.Files.{fieldsOf}
+use Rattle.file.specs.Format.{Fields, writtenRecord, written}
+use Rattle.file.specs.Records.{recordsIn}
+use Rattle.lines.specs.Lines.{behind, Place, Next}
+use Rattle.lines.specs.Order.{firstFrom, Above, Rising, risesAfter, isRising}
+use Rattle.lines.proofs.LineLaws.{size-cons, place-start, next-line, next-at, line-place}
+use Rattle.lines.proofs.OrderLaws.{is-rising, rises-start, rises-turn, rises-stop, rises-end, from-hit, from-turn, from-end, place-rising, bisect}
+use Rattle.keys.specs.Keys.{none}
+use Rattle.keys.specs.Ranks.{rankOf, rankKey, KeyIs, recordAt}
+use Rattle.keys.specs.KeyFiles.{KeyFile, KeysRise, PlaceIn, recordsFrom}
+use Rattle.keys.specs.declared.Key.{Key}
+
+-- the first record of a file starts at 0
+pub start : (file : ℕ) (s : List ℕ) → KeyFile file s → PlaceIn file s 0
+start file s f = place-start (fieldsOf file) s (f .legal)
+
+-- the record that starts at `at`, and the place behind the next LF
+pub step : (file : ℕ) (s : List ℕ) (at next : ℕ) → PlaceIn file s at → at < length s → next ≡ behind s at → Next (fieldsOf file) s at (recordAt file s at) next
+step file s at next p h e = next-line (fieldsOf file) s at p h next e
+
+-- behind the next LF from anywhere on a record starts, or the file ends
+pub line-start : (file : ℕ) (s : List ℕ) (at mid to : ℕ) → PlaceIn file s at → to ≡ behind s mid → at ≤ mid → mid < length s → PlaceIn file s to
+line-start file s at mid to p e h l = line-place (fieldsOf file) s at mid to p h l e .place
+
+-- what a pass has seen when it comes to `at`, where `last` is the key before: the file's keys rise if those from there on do
+pub record Passed (file : ℕ) (s : List ℕ) (last : Key) (at : ℕ) : Type 0 where
+  pub place : PlaceIn file s at
+  pub low : last .lo < none
+  pub rest : risesAfter (rankOf file) (rankKey last) (recordsFrom file s at) ≡ isRising (rankOf file) (recordsIn (fieldsOf file) s)
+
+-- behind the first record
+pub passed-first : (file : ℕ) (s : List ℕ) (k : Key) (next : ℕ) → KeyFile file s → 0 < length s → KeyIs (rankOf file (recordAt file s 0)) k → next ≡ behind s 0
+    → Passed file s k next
+passed-first file s k next f h i e =
+    let n = step file s 0 next (start file s f) h e in
+    record {
+      place = n .place;
+      low = i .low;
+      rest = rw (i .rank) (sym (rises-start (fieldsOf file) (rankOf file) s (recordAt file s 0) next n));
+    }
+
+module _ (file : ℕ) (s : List ℕ) (last : Key) (at : ℕ) (p : Passed file s last at) where
+  -- behind a record with a greater key
+  pub passed-next : (k : Key) (next : ℕ) → at < length s → KeyIs (rankOf file (recordAt file s at)) k → next ≡ behind s at
+      → rankKey last < rankKey k → Passed file s k next
+  passed-next k next h i e l =
+      let n = step file s at next (p .place) h e in
+      let g = rw (i .rank) at l in
+      record {
+        place = n .place;
+        low = i .low;
+        rest = rw (i .rank) (sym (rises-turn (fieldsOf file) (rankOf file) s at (rankKey last) (recordAt file s at) next n g) ∙ p .rest);
+      }
+
+  -- a record with another key ends the pass
+  pub passed-stop : (k : Key) → at < length s → KeyIs (rankOf file (recordAt file s at)) k → rankKey k ≤ rankKey last
+      → false ≡ isRising (rankOf file) (recordsIn (fieldsOf file) s)
+  passed-stop k h i l =
+      let g = rw (i .rank) at l in
+      sym (rises-stop (fieldsOf file) (rankOf file) s at (rankKey last) (p .place) h g) ∙ p .rest
+
+  -- and so does the file's end
+  pub passed-end : length s ≤ at → true ≡ isRising (rankOf file) (recordsIn (fieldsOf file) s)
+  passed-end h = sym (rises-end (fieldsOf file) (rankOf file) s at (rankKey last) h) ∙ p .rest
+
+-- what a search from `from` on has passed when it comes to `at`: the first record whose key isn't below x is that from there on
+pub record Sought (file : ℕ) (s : List ℕ) (x from at : ℕ) : Type 0 where
+  pub place : PlaceIn file s at
+  pub same : firstFrom (rankOf file) x at (recordsFrom file s at) ≡ firstFrom (rankOf file) x from (recordsFrom file s from)
+
+-- nothing yet
+pub sought-none : (file : ℕ) (s : List ℕ) (x from : ℕ) → PlaceIn file s from → Sought file s x from from
+sought-none file s x from p = record { place = p; same = refl }
+
+module _ (file : ℕ) (s : List ℕ) (x from at : ℕ) (p : Sought file s x from at) where
+  -- a record with a lesser key is passed
+  pub sought-next : (k : Key) (next : ℕ) → at < length s → KeyIs (rankOf file (recordAt file s at)) k → next ≡ behind s at → rankKey k < x
+      → Sought file s x from next
+  sought-next k next h i e l =
+      let n = step file s at next (p .place) h e in
+      let g = rw (i .rank) at l in
+      record { place = n .place; same = sym (from-turn (fieldsOf file) (rankOf file) s at x (recordAt file s at) next n g) ∙ p .same }
+
+  -- one with another is found
+  pub sought-here : (k : Key) → at < length s → KeyIs (rankOf file (recordAt file s at)) k → x ≤ rankKey k
+      → at ≡ firstFrom (rankOf file) x from (recordsFrom file s from)
+  sought-here k h i l =
+      let g = rw (i .rank) at l in
+      sym (from-hit (fieldsOf file) (rankOf file) s at x (p .place) h g) ∙ p .same
+
+  -- the file's end is the place behind the last
+  pub sought-end : length s ≤ at → at ≡ firstFrom (rankOf file) x from (recordsFrom file s from)
+  sought-end h = sym (from-end (fieldsOf file) (rankOf file) s at x h) ∙ p .same
+
+  -- where keys rise, all records before one with a lesser key are passed at once
+  pub sought-far : KeysRise file s → (k : Key) (mid to : ℕ) → to ≡ behind s mid → KeyIs (rankOf file (recordAt file s to)) k → rankKey k < x
+      → at ≤ mid → to < length s → Sought file s x from to
+  sought-far up k mid to e i l h j =
+      let g = rw (i .rank) at l in
+      let u = place-rising (fieldsOf file) (rankOf file) s at up (p .place) in
+      let b = bisect (fieldsOf file) (rankOf file) s at mid to x (p .place) u h e j g in
+      record { place = b .place; same = sym (b .same) ∙ p .same }

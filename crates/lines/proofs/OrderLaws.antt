@@ -55,8 +55,8 @@ module _ (rank : Fields → ℕ) where
       let e : at + length (written (r ∷ a)) ≡ at + length (writtenRecord r) + length (written a) = omega (arith, size-cons r a) in
       rw (ne-eqb (rank r) k (λ e. omega arith), e) (rising-skip k (at + length (writtenRecord r)) a b rs (h .1) p)
 
-  -- a rank below k: so are all before it
-  from-skip : (k at : ℕ) (a : List Fields) (b : Fields) (rs : List Fields) → Rising rank (a ++ b ∷ rs) → rank b < k
+  -- a rank at most k: all before it are below k
+  pub from-skip : (k at : ℕ) (a : List Fields) (b : Fields) (rs : List Fields) → Rising rank (a ++ b ∷ rs) → rank b ≤ k
       → firstFrom rank k at (a ++ b ∷ rs) ≡ firstFrom rank k (at + length (written a)) (b ∷ rs)
   unfolding Rising firstFrom written
   from-skip k at [] b rs h p = let e : at + 0 ≡ at = omega arith in rw e
@@ -301,7 +301,7 @@ module _ (n : ℕ) (rank : Fields → ℕ) where
           let v : recordsIn n (drop lo s) ≡ a ++ (firstRecord n s t ∷ recordsIn n (drop (behind s t) s)) =
           b .rest ∙ ap (λ (y : List Fields). a ++ y) w in
           let z : lo + length (written a) ≡ t = omega (arith, b .size) in
-          let f = from-skip rank x lo a (firstRecord n s t) (recordsIn n (drop (behind s t) s)) (rw w at u) l in
+          let f = from-skip rank x lo a (firstRecord n s t) (recordsIn n (drop (behind s t) s)) (rw w at u) (omega arith) in
           record {
             same = ap (firstFrom rank x lo) v ∙ f ∙ ap (firstFrom rank x (lo + length (written a))) (sym w) ∙ rw z;
             rising = tail-rising rank a (recordsIn n (drop t s)) u;

@@ -2,6 +2,7 @@
 use mathlib.Core.Path.{sym, _∙_}
 use Prim.Native.Nat.{_-_, _≤_}
 use native.Mathlib.Omega.{arith}
+use borrow.Author.Needs.{needs}
 use borrow.Author.Tests.{ltb-true}
 use lib.ListN.{length}
 use denote.Ref.{now}
@@ -23,12 +24,6 @@ loop-holds c =
     let a = p .args in
     (omega arith, sought-none (a .file) (now (a .s)) (rankKey (a .x)) 0 (start (a .file) (now (a .s)) (p .pre .0)))
 
-scan-requires : tie.Need-scan-requires Inv-loop μ-loop
-scan-requires c κs =
-    let q = c .before .before .before in
-    let p = q .before .before in
-    (p .pre .0, q .loop .inv .1 .place, p .pre .2)
-
 returns : tie.Need-returns Inv-loop μ-loop
 returns c = c .scan .ensures ∙ c .before .before .before .before .loop .inv .1 .same
 
@@ -42,9 +37,6 @@ key-at-requires c κs =
     let w = line-start (a .file) (now (a .s)) (l .lo) _ (n .result) (l .inv .1 .place) (n .ensures) (omega arith) (omega arith) in
     key-here (a .file) (now (a .s)) (n .result) (p .pre .0) w (omega arith)
 
-less-requires : tie.Need-less-requires Inv-loop μ-loop
-less-requires c κs = (c .key-at .ensures .low, c .before .before .before .before .before .before .pre .2)
-
 loop-again : tie.Need-loop-again Inv-loop μ-loop
 loop-again c =
     let q = c .before .before .before .before .before .before in
@@ -56,17 +48,11 @@ loop-again c =
     let h = ltb-true (rankKey (k .result)) (rankKey (a .x)) (sym (c .before .less .ensures) ∙ c .if2 .taken) in (
       l .inv .0,
       sought-far (a .file) (now (a .s)) (rankKey (a .x)) 0 (l .lo) (l .inv .1) (p .pre .1) (k .result) _ (n .result) (n .ensures) (k .ensures) h
-      (omega arith) (omega arith),
+          (omega arith) (omega arith),
     )
 
 loop-again-2 : tie.Need-loop-again-2 Inv-loop μ-loop
 loop-again-2 c = (omega arith, c .before .before .before .before .before .before .loop .inv .1)
-
-scan-requires-2 : tie.Need-scan-requires-2 Inv-loop μ-loop
-scan-requires-2 c κs =
-    let q = c .before in
-    let p = q .before .before in
-    (p .pre .0, q .loop .inv .1 .place, p .pre .2)
 
 returns-2 : tie.Need-returns-2 Inv-loop μ-loop
 returns-2 c = c .scan2 .ensures ∙ c .before .before .loop .inv .1 .same
@@ -81,13 +67,13 @@ bisect-spec =
     (λ c. omega arith)  -- sub-mid
     (λ c. omega arith)  -- add-mid
     (λ c κs. omega arith)  -- line-after-requires
-    scan-requires
+    (λ c κs. search needs)  -- scan-requires
     returns
     key-at-requires
-    less-requires
+    (λ c κs. search needs)  -- less-requires
     (λ c. omega arith)  -- loop-less
     loop-again
     (λ c. omega arith)  -- loop-less-2
     loop-again-2
-    scan-requires-2
+    (λ c κs. search needs)  -- scan-requires-2
     returns-2)

@@ -2,6 +2,7 @@
 use mathlib.Core.Path.{sym, _∙_}
 use Prim.Native.Nat.{_-_}
 use native.Mathlib.Omega.{arith}
+use borrow.Author.Needs.{needs}
 use borrow.Author.Tests.{ltb-true, ltb-false, not-true, not-false}
 use lib.ListN.{length}
 use denote.Ref.{now}
@@ -45,9 +46,6 @@ key-at-requires-2 c κs =
     let a = p .args in
     key-here (a .file) (now (a .s)) (l .at) (p .pre) (l .inv .place) (omega arith)
 
-less-requires : tie.Need-less-requires Inv-loop μ-loop
-less-requires c κs = (c .before .before .loop .inv .low, c .key-at2 .ensures .low)
-
 returns-2 : tie.Need-returns-2 Inv-loop μ-loop
 returns-2 c =
     let q = c .before .before .before .before in
@@ -84,7 +82,7 @@ rising-spec =
     (λ c κs. omega arith)  -- line-after-requires
     loop-holds
     key-at-requires-2
-    less-requires
+    (λ c κs. search needs)  -- less-requires
     returns-2
     (λ c κs. omega arith)  -- line-after-requires-2
     (λ c. omega arith)  -- loop-less

@@ -2,6 +2,7 @@
 use mathlib.Core.Path.{sym, _∙_}
 use Prim.Native.Nat.{_-_}
 use native.Mathlib.Omega.{arith}
+use borrow.Author.Needs.{needs}
 use borrow.Author.Tests.{ltb-true, ltb-false, not-true, not-false}
 use lib.ListN.{length}
 use denote.Ref.{now}
@@ -29,9 +30,6 @@ key-at-requires c κs =
     let p = c .before .before .before in
     let a = p .args in
     key-here (a .file) (now (a .s)) (l .at) (p .pre .0) (l .inv .place) (omega arith)
-
-less-requires : tie.Need-less-requires Inv-loop μ-loop
-less-requires c κs = (c .key-at .ensures .low, c .before .before .before .before .pre .2)
 
 returns : tie.Need-returns Inv-loop μ-loop
 returns c =
@@ -66,7 +64,7 @@ scan-spec =
     μ-loop
     loop-holds
     key-at-requires
-    less-requires
+    (λ c κs. search needs)  -- less-requires
     returns
     (λ c κs. omega arith)  -- line-after-requires
     (λ c. omega arith)  -- loop-less

@@ -5,6 +5,7 @@ use keys::Key;
 use keys::equal;
 use keys::key_at;
 use lines::line_after;
+use ordered::first_from;
 use walk::Found;
 ghost use mathlib.Core.Path.{_≡_};
 ghost use lib.Dec.{eqb, leb};
@@ -17,8 +18,23 @@ ghost use Rattle.file.specs.Records.{recordsIn};
 ghost use Rattle.keys.specs.Keys.{keyFields, none, lesser, firstWith, nextNumber, nextOf};
 ghost use Rattle.keys.specs.Ranks.{rankOf, rankKey};
 ghost use Rattle.lines.specs.Order.{firstRanked};
-ghost use Rattle.keys.specs.KeyFiles.{KeyFile, PlaceIn, IsIndex};
+ghost use Rattle.keys.specs.KeyFiles.{KeyFile, KeysRise, PlaceIn, IsIndex};
 ghost use Rattle.find.specs.Find.{Serves, Asks, tripAt};
+
+// Where keys rise.
+fn among_rising(file: u64, s: &[u8], last: usize, k: Key) -> Found
+    requires { ⌜ KeyFile file (now s) × KeysRise file (now s) × PlaceIn file (now s) last × (k .lo < none) ⌝ }
+    ensures { λ r. ⌜ r ≡ firstRanked (rankOf file) (rankKey k) 0 (recordsIn (fieldsOf file) (now (s .entry))) ⌝ }
+{
+    let at = first_from(file, s, last, k);
+    if at >= s.len() {
+        return Found::Nothing;
+    }
+    if equal(key_at(file, s, at), k) {
+        return Found::At(at);
+    }
+    Found::Nothing
+}
 
 // By an index.
 fn by_index(file: u64, s: &[u8], order: &[u32], k: Key) -> Found
@@ -56,6 +72,9 @@ fn first_ranked(file: u64, s: &[u8], rises: bool, part: &[u32], last: usize, k: 
     requires { ⌜ Serves file (now s) rises (now part) × PlaceIn file (now s) last × (k .lo < none) ⌝ }
     ensures { λ r. ⌜ r ≡ firstRanked (rankOf file) (rankKey k) 0 (recordsIn (fieldsOf file) (now (s .entry))) ⌝ }
 {
+    if rises {
+        return among_rising(file, s, last, k);
+    }
     if part.len() > 0 {
         return by_index(file, s, part, k);
     }
@@ -161,6 +180,10 @@ pub fn next_of_trip(file: u64, s: &[u8], rises: bool, part: &[u32], last: usize,
     requires { ⌜ Asks file (now s) rises (now part) last 3 × (line < none) × (trip < none) × (x < none) ⌝ }
     ensures { λ r. ⌜ r ≡ nextOf file line trip x (recordsIn (fieldsOf file) (now (s .entry))) ⌝ }
 {
+    if rises {
+        let at = first_from(file, s, last, Key { hi: line * 1000000000 + trip, lo: x });
+        return if_of_trip(file, s, at, line, trip);
+    }
     if part.len() > 0 {
         return next_by_index(file, s, part, line, trip, x);
     }

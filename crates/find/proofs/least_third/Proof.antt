@@ -1,52 +1,37 @@
+-- `find::least_third` meets its contract. The loop's invariant: the lesser of `least` and the least number from the record at `at` on is that
+-- of all.
+use mathlib.Core.Path.{_≡_}
+use Prim.Native.Nat.{_+_, _*_, _-_}
+use native.Mathlib.Omega.{arith}
+use borrow.Author.Needs.{needs}
+use lib.ListN.{length}
+use denote.Ref.{now}
+use Rattle.keys.specs.Keys.{none}
+use Rattle.keys.proofs.KeyFileLaws.{key-here}
+use Rattle.find.proofs.TripLaws.{Passing, pass-start, pass-next, pass-end}
 use Rattle.find.proofs.least_third.Statement.{statement}
 use Rattle.find.proofs.least_third.Tie as tie
-use Rattle.find.proofs.least_third.Reads as reads
-use Rattle.find.proofs.least_third.Lts as lts
-use Rattle.find.proofs.nearer.Reads as nearer-reads
-use Rattle.keys.proofs.key_at.Reads as key-at-reads
-use Rattle.lines.proofs.line_after.Reads as line-after-reads
 
 abbrev Inv-loop : tie.InvT-loop
-Inv-loop file s line trip x hi least₀ at₀ least at = ?
+Inv-loop file s line trip x hi least₀ at₀ least at = Passing file line trip x s least at
 
 abbrev μ-loop : tie.MeasureT-loop
-μ-loop file s line trip x hi least₀ at₀ least at = ?
+μ-loop file s line trip x hi least₀ at₀ least at = length s - at
 
--- src/lib.rt:90:14
-mul-hi : tie.Need-mul-hi Inv-loop μ-loop
-mul-hi c = ?
-
--- src/lib.rt:90:14
-add-hi : tie.Need-add-hi Inv-loop μ-loop
-add-hi c = ?
-
--- src/lib.rt:93:5
-loop-holds : tie.Need-loop-holds Inv-loop μ-loop
-loop-holds c = ?
-
--- src/lib.rt:94:38
-key-at-requires : tie.Need-key-at-requires Inv-loop μ-loop
-key-at-requires c κs = ?
-
--- src/lib.rt:94:9
-nearer-requires : tie.Need-nearer-requires Inv-loop μ-loop
-nearer-requires c κs = ?
-
--- src/lib.rt:95:9
-line-after-requires : tie.Need-line-after-requires Inv-loop μ-loop
-line-after-requires c κs = ?
-
--- src/lib.rt:93:5
-loop-less : tie.Need-loop-less Inv-loop μ-loop
-loop-less c = ?
-
--- src/lib.rt:93:5
 loop-again : tie.Need-loop-again Inv-loop μ-loop
-loop-again c = ?
+loop-again c =
+    let q = c .before .before .before .before in
+    let l = q .loop in
+    let p = q .before .before in
+    let a = p .args in
+    let k = c .before .before .key-at in
+    pass-next (a .file) (a .line) (a .trip) (a .x) (now (a .s)) (l .least) (l .at) (l .inv) (p .pre .0) (p .pre .1) (p .pre .3) (omega arith) (k .result) (k .ensures) (c .before .nearer .result) (c .before .nearer .ensures) (c .line-after .result) (c .line-after .ensures)
 
--- src/lib.rt:86:1
 returns : tie.Need-returns Inv-loop μ-loop
-returns c = ?
+returns c =
+    let l = c .before .loop in
+    let a = c .before .before .before .args in
+    pass-end (a .file) (a .line) (a .trip) (a .x) (now (a .s)) (l .least) (l .at) (l .inv) (c .loop-test .left)
 
 pub least-third-spec : {M : Type 1} → statement M
 least-third-spec =
@@ -54,12 +39,12 @@ least-third-spec =
     (tie.spec
     Inv-loop
     μ-loop
-    mul-hi
-    add-hi
-    loop-holds
-    key-at-requires
-    nearer-requires
-    line-after-requires
-    loop-less
+    (λ c. search needs)  -- mul-hi
+    (λ c. search needs)  -- add-hi
+    (λ c. let p = c .before in let a = p .args in pass-start (a .file) (a .line) (a .trip) (a .x) (now (a .s)) (p .pre .0))  -- loop-holds
+    (λ c κs. let p = c .before in key-here _ _ _ (p .before .before .pre .0) (p .loop .inv .place) (c .loop-test .taken))  -- key-at-requires
+    (λ c κs. search needs)  -- nearer-requires
+    (λ c κs. omega arith)  -- line-after-requires
+    (λ c. omega (arith, c .line-after .ensures))  -- loop-less
     loop-again
     returns)

@@ -1,43 +1,16 @@
+-- `find::first_ranked` meets its contract: each way finds the same.
+use native.Mathlib.Omega.{arith}
 use borrow.Author.Needs.{needs}
 use Rattle.find.proofs.first_ranked.Statement.{statement}
 use Rattle.find.proofs.first_ranked.Tie as tie
-use Rattle.find.proofs.first_ranked.Reads as reads
-use Rattle.find.proofs.first_ranked.Lts as lts
-use Rattle.find.proofs.among_rising.Reads as among-rising-reads
-use Rattle.find.proofs.by_index.Reads as by-index-reads
-use Rattle.find.proofs.by_search.Reads as by-search-reads
-
--- src/lib.rt:76:9
-among-rising-requires : tie.Need-among-rising-requires
-among-rising-requires c κs = ?
-
--- src/lib.rt:76:9
-returns : tie.Need-returns
-returns c = search needs
-
--- src/lib.rt:79:9
-by-index-requires : tie.Need-by-index-requires
-by-index-requires c κs = ?
-
--- src/lib.rt:79:9
-returns-2 : tie.Need-returns-2
-returns-2 c = search needs
-
--- src/lib.rt:81:5
-by-search-requires : tie.Need-by-search-requires
-by-search-requires c κs = search needs
-
--- src/lib.rt:71:1
-returns-3 : tie.Need-returns-3
-returns-3 c = search needs
 
 pub first-ranked-spec : {M : Type 1} → statement M
 first-ranked-spec =
     tie.close
     (tie.spec
-    among-rising-requires
-    returns
-    by-index-requires
-    returns-2
-    by-search-requires
-    returns-3)
+    (λ c κs. let p = c .before .before .before .pre in (p .0 .keyed, p .0 .up (c .if1 .taken), p .1, p .2))  -- among-rising-requires
+    (λ c. search needs)  -- returns
+    (λ c κs. let p = c .before .before .before .before .pre in (p .0 .keyed, p .0 .index (c .if2 .taken), p .2))  -- by-index-requires
+    (λ c. search needs)  -- returns-2
+    (λ c κs. search needs)  -- by-search-requires
+    (λ c. search needs))  -- returns-3

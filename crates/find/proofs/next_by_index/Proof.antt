@@ -1,57 +1,56 @@
+-- `find::next_by_index` meets its contract: the first entry from the trip's x on is the next record, or there is none.
+use mathlib.Core.Path.{_≡_, refl, sym, _∙_}
+use Prim.Native.Nat.{ℕ, _+_, _*_}
+use native.Mathlib.Omega.{arith}
 use borrow.Author.Needs.{needs}
+use borrow.Author.Tests.{le-ltb}
+use lib.ListN.{length, getD}
+use denote.Ref.{now}
+use Rattle.keys.specs.Ranks.{rankKey}
+use Rattle.hinted.proofs.HintedLaws.{entry-place}
+use Rattle.find.specs.Find.{tripAt}
+use Rattle.find.proofs.TripLaws.{index-leads, index-leads-none, leads-next}
 use Rattle.find.proofs.next_by_index.Statement.{statement}
 use Rattle.find.proofs.next_by_index.Tie as tie
-use Rattle.find.proofs.next_by_index.Reads as reads
-use Rattle.find.proofs.next_by_index.Lts as lts
-use Rattle.find.proofs.if_of_trip.Reads as if-of-trip-reads
-use Rattle.hinted.proofs.lower.Reads as lower-reads
 
--- src/lib.rt:152:45
-mul-t8 : tie.Need-mul-t8
-mul-t8 c = search needs
-
--- src/lib.rt:152:45
-add-t9 : tie.Need-add-t9
-add-t9 c = search needs
-
--- src/lib.rt:152:9
-lower-requires : tie.Need-lower-requires
-lower-requires c κs = search needs
-
--- src/lib.rt:154:9
 returns : tie.Need-returns
-returns c = ?
+unfolding tripAt rankKey
+returns c =
+    let p = c .before .before .before .before in
+    let a = p .args in
+    let m = c .before .lower in
+    let s = now (a .s) in
+    let l = index-leads-none (a .file) s (now (a .order)) _ (m .result) (p .pre .0) (p .pre .2) (m .ensures) (omega arith) in
+    let e = leads-next (a .file) (a .line) (a .trip) (a .x) s (length s) (p .pre .0) (p .pre .1) (p .pre .3) (p .pre .4) l in
+    rw (le-ltb (length s) (length s) (omega arith)) at e
 
--- src/lib.rt:156:25
-mul-if-of-trip : tie.Need-mul-if-of-trip
-mul-if-of-trip c = search needs
-
--- src/lib.rt:156:25
-shared-slice-read-if-of-trip : tie.Need-shared-slice-read-if-of-trip
-shared-slice-read-if-of-trip c = search needs
-
--- src/lib.rt:156:25
-cast-if-of-trip : tie.Need-cast-if-of-trip
-cast-if-of-trip c = ?
-
--- src/lib.rt:156:5
 if-of-trip-requires : tie.Need-if-of-trip-requires
-if-of-trip-requires c κs = ?
+if-of-trip-requires c κs =
+    let p = c .before .before .before .before .before in
+    let a = p .args in
+    let w = entry-place (a .file) (now (a .s)) (now (a .order)) (p .pre .2) (c .before .before .lower .result) (omega arith) in
+    (p .pre .0, p .pre .1, w .0, p .pre .3, p .pre .4)
 
--- src/lib.rt:148:1
 returns-2 : tie.Need-returns-2
-returns-2 c = ?
+unfolding rankKey
+returns-2 c =
+    let p = c .before .before .before .before .before .before in
+    let a = p .args in
+    let m = c .before .before .before .lower in
+    let s = now (a .s) in
+    let l = index-leads (a .file) s (now (a .order)) _ (m .result) (p .pre .0) (p .pre .2) (m .ensures) (omega arith) in
+    c .if-of-trip .ensures ∙ leads-next (a .file) (a .line) (a .trip) (a .x) s (getD (now (a .order)) (m .result) 0) (p .pre .0) (p .pre .1) (p .pre .3) (p .pre .4) l
 
 pub next-by-index-spec : {M : Type 1} → statement M
 next-by-index-spec =
     tie.close
     (tie.spec
-    mul-t8
-    add-t9
-    lower-requires
+    (λ c. search needs)  -- mul-t8
+    (λ c. search needs)  -- add-t9
+    (λ c κs. search needs)  -- lower-requires
     returns
-    mul-if-of-trip
-    shared-slice-read-if-of-trip
-    cast-if-of-trip
+    (λ c. search needs)  -- mul-if-of-trip
+    (λ c. search needs)  -- shared-slice-read-if-of-trip
+    (λ c. omega (arith, c .shared-slice-known3 .given (c .before .before .lower .result)))  -- cast-if-of-trip
     if-of-trip-requires
     returns-2)

@@ -1,59 +1,44 @@
+-- `find::next_of_trip` meets its contract: each way finds the same.
+use mathlib.Core.Path.{_≡_, _∙_}
+use native.Mathlib.Omega.{arith}
 use borrow.Author.Needs.{needs}
+use denote.Ref.{now}
+use Rattle.file.specs.Files.{fieldsOf}
+use Rattle.lines.proofs.OrderLaws.{from-place}
+use Rattle.keys.specs.Ranks.{rankOf, rankKey}
+use Rattle.find.proofs.TripLaws.{rising-leads, leads-next}
 use Rattle.find.proofs.next_of_trip.Statement.{statement}
 use Rattle.find.proofs.next_of_trip.Tie as tie
-use Rattle.find.proofs.next_of_trip.Reads as reads
-use Rattle.find.proofs.next_of_trip.Lts as lts
-use Rattle.find.proofs.if_of_trip.Reads as if-of-trip-reads
-use Rattle.find.proofs.next_by_index.Reads as next-by-index-reads
-use Rattle.find.proofs.next_by_search.Reads as next-by-search-reads
-use Rattle.ordered.proofs.first_from.Reads as first-from-reads
 
--- src/lib.rt:184:54
-mul-t11 : tie.Need-mul-t11
-mul-t11 c = search needs
-
--- src/lib.rt:184:54
-add-t12 : tie.Need-add-t12
-add-t12 c = search needs
-
--- src/lib.rt:184:13
-first-from-requires : tie.Need-first-from-requires
-first-from-requires c κs = ?
-
--- src/lib.rt:185:9
 if-of-trip-requires : tie.Need-if-of-trip-requires
-if-of-trip-requires c κs = ?
+if-of-trip-requires c κs =
+    let p = c .before .before .before .before in
+    let a = p .args in
+    let q = p .pre .0 in
+    let m = c .first-from in
+    (q .serves .keyed, q .numbers, from-place (fieldsOf (a .file)) (rankOf (a .file)) (now (a .s)) _ (m .result) (q .serves .keyed .legal) (m .ensures), p .pre .1, p .pre .2)
 
--- src/lib.rt:185:9
 returns : tie.Need-returns
-returns c = ?
-
--- src/lib.rt:188:9
-next-by-index-requires : tie.Need-next-by-index-requires
-next-by-index-requires c κs = ?
-
--- src/lib.rt:188:9
-returns-2 : tie.Need-returns-2
-returns-2 c = search needs
-
--- src/lib.rt:190:5
-next-by-search-requires : tie.Need-next-by-search-requires
-next-by-search-requires c κs = search needs
-
--- src/lib.rt:179:1
-returns-3 : tie.Need-returns-3
-returns-3 c = search needs
+unfolding rankKey
+returns c =
+    let p = c .before .before .before .before .before in
+    let a = p .args in
+    let q = p .pre .0 in
+    let f = q .serves .keyed in
+    let m = c .before .first-from in
+    let l = rising-leads (a .file) (now (a .s)) _ (m .result) f (q .serves .up (c .before .before .if1 .taken)) (m .ensures) in
+    c .if-of-trip .ensures ∙ leads-next (a .file) (a .line) (a .trip) (a .x) (now (a .s)) (m .result) f (q .numbers) (p .pre .1) (p .pre .2) l
 
 pub next-of-trip-spec : {M : Type 1} → statement M
 next-of-trip-spec =
     tie.close
     (tie.spec
-    mul-t11
-    add-t12
-    first-from-requires
+    (λ c. search needs)  -- mul-t11
+    (λ c. search needs)  -- add-t12
+    (λ c κs. let p = c .before .before .before .pre in let q = p .0 .serves in (q .keyed, q .up (c .if1 .taken), p .0 .place, p .3))  -- first-from-requires
     if-of-trip-requires
     returns
-    next-by-index-requires
-    returns-2
-    next-by-search-requires
-    returns-3)
+    (λ c κs. let p = c .before .before .before .before .pre in let q = p .0 .serves in (q .keyed, p .0 .numbers, q .index (c .if2 .taken), p .1, p .2, p .3))  -- next-by-index-requires
+    (λ c. search needs)  -- returns-2
+    (λ c κs. search needs)  -- next-by-search-requires
+    (λ c. search needs))  -- returns-3

@@ -1,7 +1,7 @@
 -- The record of a trip that is next in key order: the least third number as a pass over the records finds it, and as the record with the
 -- least rank from some rank on shows it.
 use mathlib.Core.Path.{_≡_, refl, sym, ap, _∙_}
-use mathlib.Core.Bool.{Bool, true, false}
+use mathlib.Core.Bool.{true, false}
 use mathlib.Core.List.{List, [], _∷_, _++_}
 use Prim.Native.Nat.{ℕ, _+_, _*_, _-_, _≤_, _<_}
 use native.Mathlib.Omega.{arith}
@@ -31,11 +31,22 @@ use Rattle.find.specs.Find.{tripAt}
 use Rattle.find.proofs.FindLaws.{small-three}
 
 -- a key of three numbers is that of fields 1, 2 and 3
-pub three-fields : (file : ℕ) → IsKeyed file → length (keyFields file) ≡ 3 → keyFields file ≡ 1 ∷ 2 ∷ 3 ∷ []
+three-fields : (file : ℕ) → IsKeyed file → length (keyFields file) ≡ 3 → keyFields file ≡ 1 ∷ 2 ∷ 3 ∷ []
 unfolding keyFields keyTable
 three-fields file k =
-    one-of (λ (f : ℕ). length (keyFields f) ≡ 3 → keyFields f ≡ 1 ∷ 2 ∷ 3 ∷ []) 2 9
-    (λ e. absurd (omega arith), (λ e. absurd (omega arith), (λ e. absurd (omega arith), (λ e. absurd (omega arith), (λ e. absurd (omega arith), (λ e. absurd (omega arith), (λ e. refl, (λ e. absurd (omega arith), (λ e. refl, tt)))))))))
+    one-of (λ (f : ℕ). length (keyFields f) ≡ 3 → keyFields f ≡ 1 ∷ 2 ∷ 3 ∷ []) 2 9 (
+      λ e. absurd (omega arith),
+      (
+        λ e. absurd (omega arith),
+        (
+          λ e. absurd (omega arith),
+          (
+            λ e. absurd (omega arith),
+            (λ e. absurd (omega arith), (λ e. absurd (omega arith), (λ e. refl, (λ e. absurd (omega arith), (λ e. refl, tt))))),
+          ),
+        ),
+      ),
+    )
     file (k .0) (omega arith)
 
 -- the lesser of two numbers, as a difference
@@ -71,15 +82,16 @@ lesser-swap t a b =
     ap (lesser a) (sym (lesser-right t b (omega arith))))))
 
 -- The records of a trip by their keys, as the code holds them.
-module _ (file line trip : ℕ) (three : keyFields file ≡ 1 ∷ 2 ∷ 3 ∷ []) (small : trip < none) (r : Fields) (n : Numbers (keyFields file) r) (k : Key) (i : KeyIs (rankOf file r) k) where
-  pub key-of-trip : k .hi ≡ line * none + trip → ofTrip file line trip r ≡ true
+module _ (file line trip : ℕ) (three : keyFields file ≡ 1 ∷ 2 ∷ 3 ∷ []) (small : trip < none)
+    (r : Fields) (n : Numbers (keyFields file) r) (k : Key) (i : KeyIs (rankOf file r) k) where
+  key-of-trip : k .hi ≡ line * none + trip → ofTrip file line trip r ≡ true
   unfolding rankKey
   key-of-trip e =
       let g = i .rank in
       let l = i .low in
       of-trip file line trip r three n small (omega arith) (omega arith)
 
-  pub key-not-of-trip : (k .hi ≡ line * none + trip → ⊥) → ofTrip file line trip r ≡ false
+  key-not-of-trip : (k .hi ≡ line * none + trip → ⊥) → ofTrip file line trip r ≡ false
   unfolding rankKey
   key-not-of-trip e =
       either (ofTrip file line trip r)
@@ -101,6 +113,25 @@ module _ (file line trip : ℕ) (three : keyFields file ≡ 1 ∷ 2 ∷ 3 ∷ []
       let o = key-of-trip (eqb-true (k .hi) (line * none + trip) t) in
       rw (t, o, key-third o))
       (λ t. rw (t, key-not-of-trip (eqb-false (k .hi) (line * none + trip) t)))
+
+-- The record at a place, if it is one of the trip's.
+pub trip-end : (file line trip : ℕ) (s : List ℕ) (at : ℕ) → length s ≤ at → tripAt file line trip s at ≡ Nothing
+unfolding tripAt
+trip-end file line trip s at h = rw (le-ltb at (length s) h)
+
+module _ (file line trip : ℕ) (s : List ℕ) (at : ℕ) (f : KeyFile file s) (count : length (keyFields file) ≡ 3) (small : trip < none) (p : PlaceIn file s at)
+    (h : at < length s) (k : Key) (i : KeyIs (rankOf file (recordAt file s at)) k) where
+  pub trip-here : k .hi ≡ line * none + trip → tripAt file line trip s at ≡ At at
+  unfolding tripAt
+  trip-here e =
+      let n = key-here file s at f p h .numbers in
+      rw (lt-ltb at (length s) h, key-of-trip file line trip (three-fields file (f .keyed) count) small (recordAt file s at) n k i e)
+
+  pub trip-other : (k .hi ≡ line * none + trip → ⊥) → tripAt file line trip s at ≡ Nothing
+  unfolding tripAt
+  trip-other e =
+      let n = key-here file s at f p h .numbers in
+      rw (lt-ltb at (length s) h, key-not-of-trip file line trip (three-fields file (f .keyed) count) small (recordAt file s at) n k i e)
 
 -- The pass over the records.
 module _ (file line trip x : ℕ) where

@@ -26,12 +26,12 @@ fn among_rising(file: u64, s: &[u8], last: usize, k: Key) -> Found
     requires { ⌜ KeyFile file (now s) × KeysRise file (now s) × PlaceIn file (now s) last × (k .lo < none) ⌝ }
     ensures { λ r. ⌜ r ≡ firstRanked (rankOf file) (rankKey k) 0 (recordsIn (fieldsOf file) (now (s .entry))) ⌝ }
 {
-    let at = first_from(file, s, last, k);
-    if at >= s.len() {
+    let first = first_from(file, s, last, k);
+    if first >= s.len() {
         return Found::Nothing;
     }
-    if equal(key_at(file, s, at), k) {
-        return Found::At(at);
+    if equal(key_at(file, s, first), k) {
+        return Found::At(first);
     }
     Found::Nothing
 }
@@ -90,19 +90,47 @@ pub fn with_one(file: u64, s: &[u8], rises: bool, part: &[u32], last: usize, a: 
 }
 
 // inner: the numbers a and b
-pub fn with_two(file: u64, s: &[u8], rises: bool, part: &[u32], last: usize, a: u64, b: u64) -> Found
+pub fn with_two(
+    file: u64,
+    s: &[u8],
+    rises: bool,
+    part: &[u32],
+    last: usize,
+    a: u64,
+    b: u64,
+) -> Found
     requires { ⌜ Asks file (now s) rises (now part) last 2 × (a < none) × (b < none) ⌝ }
     ensures { λ r. ⌜ r ≡ firstWith file (a ∷ b ∷ []) 0 (recordsIn (fieldsOf file) (now (s .entry))) ⌝ }
 {
-    first_ranked(file, s, rises, part, last, Key { hi: a * 1000000000 + b, lo: 0 })
+    first_ranked(
+        file,
+        s,
+        rises,
+        part,
+        last,
+        Key {
+            hi: a * 1000000000 + b,
+            lo: 0,
+        },
+    )
 }
 
 // inner: the numbers a, b and c
-pub fn with_three(file: u64, s: &[u8], rises: bool, part: &[u32], last: usize, a: u64, b: u64, c: u64) -> Found
+pub fn with_three(
+    file: u64,
+    s: &[u8],
+    rises: bool,
+    part: &[u32],
+    last: usize,
+    a: u64,
+    b: u64,
+    c: u64,
+) -> Found
     requires { ⌜ Asks file (now s) rises (now part) last 3 × (a < none) × (b < none) × (c < none) ⌝ }
     ensures { λ r. ⌜ r ≡ firstWith file (a ∷ b ∷ c ∷ []) 0 (recordsIn (fieldsOf file) (now (s .entry))) ⌝ }
 {
-    first_ranked(file, s, rises, part, last, Key { hi: a * 1000000000 + b, lo: c })
+    let hi = a * 1000000000 + b;
+    first_ranked(file, s, rises, part, last, Key { hi: hi, lo: c })
 }
 
 // The lesser of `least` and the third number of k, if k is a key of the trip, from x on.
@@ -128,7 +156,7 @@ fn least_third(file: u64, s: &[u8], line: u64, trip: u64, x: u64) -> u64
 {
     let hi = line * 1000000000 + trip;
     let mut least: u64 = 1000000000;
-    let mut at = 0;
+    let mut at: usize = 0;
     while at < s.len() {
         least = nearer(least, hi, x, key_at(file, s, at));
         at = line_after(s, at);
@@ -160,7 +188,14 @@ fn next_by_search(file: u64, s: &[u8], line: u64, trip: u64, x: u64) -> Found
     if y == 1000000000 {
         return Found::Nothing;
     }
-    by_search(file, s, Key { hi: line * 1000000000 + trip, lo: y })
+    by_search(
+        file,
+        s,
+        Key {
+            hi: line * 1000000000 + trip,
+            lo: y,
+        },
+    )
 }
 
 // By an index.
@@ -168,7 +203,15 @@ fn next_by_index(file: u64, s: &[u8], order: &[u32], line: u64, trip: u64, x: u6
     requires { ⌜ KeyFile file (now s) × (length (keyFields file) ≡ 3) × IsIndex file (now s) (now order) × (line < none) × (trip < none) × (x < none) ⌝ }
     ensures { λ r. ⌜ r ≡ nextOf file line trip x (recordsIn (fieldsOf file) (now (s .entry))) ⌝ }
 {
-    let i = lower(file, s, order, Key { hi: line * 1000000000 + trip, lo: x });
+    let i = lower(
+        file,
+        s,
+        order,
+        Key {
+            hi: line * 1000000000 + trip,
+            lo: x,
+        },
+    );
     if i >= order.len() {
         return Found::Nothing;
     }
@@ -176,12 +219,29 @@ fn next_by_index(file: u64, s: &[u8], order: &[u32], line: u64, trip: u64, x: u6
 }
 
 // inner: of the records of a trip, the one whose third number is the least from x on
-pub fn next_of_trip(file: u64, s: &[u8], rises: bool, part: &[u32], last: usize, line: u64, trip: u64, x: u64) -> Found
+pub fn next_of_trip(
+    file: u64,
+    s: &[u8],
+    rises: bool,
+    part: &[u32],
+    last: usize,
+    line: u64,
+    trip: u64,
+    x: u64,
+) -> Found
     requires { ⌜ Asks file (now s) rises (now part) last 3 × (line < none) × (trip < none) × (x < none) ⌝ }
     ensures { λ r. ⌜ r ≡ nextOf file line trip x (recordsIn (fieldsOf file) (now (s .entry))) ⌝ }
 {
     if rises {
-        let at = first_from(file, s, last, Key { hi: line * 1000000000 + trip, lo: x });
+        let at = first_from(
+            file,
+            s,
+            last,
+            Key {
+                hi: line * 1000000000 + trip,
+                lo: x,
+            },
+        );
         return if_of_trip(file, s, at, line, trip);
     }
     if part.len() > 0 {

@@ -1,7 +1,6 @@
 -- What is known of a lent list once it was looked at: whether it is an index of the file, and whether the keys of its entries rise without
 -- a repeat, so that no two records have one key.
 use Prim.Native.Nat.{ℕ, _+_, _*_, _^_, _≤_, _<_}
-use mathlib.Core.Path.{_≡_}
 use mathlib.Core.List.{List}
 use lib.ListN.{length, getD}
 use Rattle.file.specs.Files.{fieldsOf}

@@ -1,5 +1,4 @@
 -- `find::first_ranked` meets its contract: each way finds the same.
-use native.Mathlib.Omega.{arith}
 use borrow.Author.Needs.{needs}
 use Rattle.find.proofs.first_ranked.Statement.{statement}
 use Rattle.find.proofs.first_ranked.Tie as tie

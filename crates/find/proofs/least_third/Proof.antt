@@ -1,12 +1,10 @@
 -- `find::least_third` meets its contract. The loop's invariant: the lesser of `least` and the least number from the record at `at` on is that
 -- of all.
-use mathlib.Core.Path.{_≡_}
-use Prim.Native.Nat.{_+_, _*_, _-_}
+use Prim.Native.Nat.{_-_}
 use native.Mathlib.Omega.{arith}
 use borrow.Author.Needs.{needs}
 use lib.ListN.{length}
 use denote.Ref.{now}
-use Rattle.keys.specs.Keys.{none}
 use Rattle.keys.proofs.KeyFileLaws.{key-here}
 use Rattle.find.proofs.TripLaws.{Passing, pass-start, pass-next, pass-end}
 use Rattle.find.proofs.least_third.Statement.{statement}
@@ -25,7 +23,10 @@ loop-again c =
     let p = q .before .before in
     let a = p .args in
     let k = c .before .before .key-at in
-    pass-next (a .file) (a .line) (a .trip) (a .x) (now (a .s)) (l .least) (l .at) (l .inv) (p .pre .0) (p .pre .1) (p .pre .3) (omega arith) (k .result) (k .ensures) (c .before .nearer .result) (c .before .nearer .ensures) (c .line-after .result) (c .line-after .ensures)
+    let n = c .before .nearer in
+    let e = c .line-after in
+    pass-next (a .file) (a .line) (a .trip) (a .x) (now (a .s)) (l .least) (l .at) (l .inv) (p .pre .0) (p .pre .1) (p .pre .3) (omega arith) (k .result) (k .ensures)
+    (n .result) (n .ensures) (e .result) (e .ensures)
 
 returns : tie.Need-returns Inv-loop μ-loop
 returns c =

@@ -1,28 +1,25 @@
 -- `find::next_by_index` meets its contract: the first entry from the trip's x on is the next record, or there is none.
-use mathlib.Core.Path.{_≡_, refl, sym, _∙_}
-use Prim.Native.Nat.{ℕ, _+_, _*_}
+use mathlib.Core.Path.{sym, _∙_}
 use native.Mathlib.Omega.{arith}
 use borrow.Author.Needs.{needs}
-use borrow.Author.Tests.{le-ltb}
 use lib.ListN.{length, getD}
 use denote.Ref.{now}
 use Rattle.keys.specs.Ranks.{rankKey}
 use Rattle.hinted.proofs.HintedLaws.{entry-place}
-use Rattle.find.specs.Find.{tripAt}
-use Rattle.find.proofs.TripLaws.{index-leads, index-leads-none, leads-next}
+use Rattle.find.proofs.TripLaws.{trip-end, index-leads, index-leads-none, leads-next}
 use Rattle.find.proofs.next_by_index.Statement.{statement}
 use Rattle.find.proofs.next_by_index.Tie as tie
 
 returns : tie.Need-returns
-unfolding tripAt rankKey
+unfolding rankKey
 returns c =
     let p = c .before .before .before .before in
     let a = p .args in
     let m = c .before .lower in
     let s = now (a .s) in
     let l = index-leads-none (a .file) s (now (a .order)) _ (m .result) (p .pre .0) (p .pre .2) (m .ensures) (omega arith) in
-    let e = leads-next (a .file) (a .line) (a .trip) (a .x) s (length s) (p .pre .0) (p .pre .1) (p .pre .3) (p .pre .4) l in
-    rw (le-ltb (length s) (length s) (omega arith)) at e
+    sym (trip-end (a .file) (a .line) (a .trip) s (length s) (omega arith))
+    ∙ leads-next (a .file) (a .line) (a .trip) (a .x) s (length s) (p .pre .0) (p .pre .1) (p .pre .3) (p .pre .4) l
 
 if-of-trip-requires : tie.Need-if-of-trip-requires
 if-of-trip-requires c κs =

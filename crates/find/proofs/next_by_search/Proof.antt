@@ -1,6 +1,6 @@
 -- `find::next_by_search` meets its contract: of the records with the least number the first.
-use mathlib.Core.Path.{_≡_, sym, _∙_}
-use mathlib.Core.List.{List, [], _∷_}
+use mathlib.Core.Path.{sym, _∙_}
+use mathlib.Core.List.{[], _∷_}
 use Prim.Native.Nat.{_<_}
 use native.Mathlib.Omega.{arith}
 use borrow.Author.Needs.{needs}
@@ -37,8 +37,9 @@ returns-2 c =
     let m = next-most (a .file) (a .line) (a .trip) (a .x) rs in
     let ne = c .before .if1 .left in
     let h : y .result < none = omega (arith, m, y .ensures, ne) in
+    let small = small-three (a .line) (a .trip) (y .result) (p .pre .2) (p .pre .3) h in
     c .by-search .ensures
-    ∙ by-key (a .file) (a .line ∷ a .trip ∷ y .result ∷ []) _ _ (f .keyed) (f .keys) (small-three (a .line) (a .trip) (y .result) (p .pre .2) (p .pre .3) h) (sym (p .pre .1)) (rank-three (a .line) (a .trip) (y .result))
+    ∙ by-key (a .file) (a .line ∷ a .trip ∷ y .result ∷ []) _ _ (f .keyed) (f .keys) small (sym (p .pre .1)) (rank-three (a .line) (a .trip) (y .result))
     ∙ sym (next-found (a .file) (a .line) (a .trip) (a .x) rs (y .result) (y .ensures) ne)
 
 pub next-by-search-spec : {M : Type 1} → statement M

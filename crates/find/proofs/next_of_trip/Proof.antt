@@ -1,6 +1,5 @@
 -- `find::next_of_trip` meets its contract: each way finds the same.
-use mathlib.Core.Path.{_≡_, _∙_}
-use native.Mathlib.Omega.{arith}
+use mathlib.Core.Path.{_∙_}
 use borrow.Author.Needs.{needs}
 use denote.Ref.{now}
 use Rattle.file.specs.Files.{fieldsOf}

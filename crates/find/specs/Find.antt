@@ -8,7 +8,7 @@ use lib.Dec.{ltb}
 use Rattle.laws.specs.Tests.{pick, both}
 use Rattle.walk.specs.declared.Found.{Found}
 use Rattle.walk.specs.declared.Found.the-variants.{At, Nothing}
-use Rattle.keys.specs.Keys.{keyFields, none, ofTrip}
+use Rattle.keys.specs.Keys.{keyFields, ofTrip}
 use Rattle.keys.specs.Ranks.{recordAt}
 use Rattle.keys.specs.KeyFiles.{KeyFile, KeysRise, PlaceIn, IsIndex}
 

@@ -18,11 +18,11 @@ use Rattle.lines.specs.Index.{Start, Good}
 use Rattle.lines.proofs.IndexLaws.{place-known, index-is, index-from, index-none, index-hit, index-miss, distinct-entries}
 use Rattle.keys.specs.Keys.{keyFields, keyOf, has}
 use Rattle.keys.specs.Ranks.{AllKeyed, rankOf, rankKey, KeyIs, recordAt}
-use Rattle.keys.specs.KeyFiles.{KeyFile, PlaceIn}
+use Rattle.keys.specs.KeyFiles.{KeyFile, PlaceIn, IsIndex}
 use Rattle.keys.specs.declared.Key.{Key}
 use Rattle.keys.proofs.KeyLaws.{key-size, key-small}
 use Rattle.keys.proofs.KeyFileLaws.{key-here, has-rank}
-use Rattle.hinted.specs.Hinted.{IsIndex, entryRank, KeysApart, Goes, Looked, Lower}
+use Rattle.hinted.specs.Hinted.{entryRank, KeysApart, Goes, Looked, Lower}
 
 -- each record has a key: so have the first ones
 keyed-init : (file : ℕ) (a b : List Fields) → AllKeyed file (a ++ b) → AllKeyed file a

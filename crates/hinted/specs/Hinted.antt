@@ -5,11 +5,8 @@ use mathlib.Core.List.{List}
 use lib.ListN.{length, getD}
 use Rattle.file.specs.Files.{fieldsOf}
 use Rattle.keys.specs.Ranks.{rankOf}
-use Rattle.lines.specs.Index.{Index, rankAt}
-
--- the list is an index of this file by its keys
-abbrev pub IsIndex : ℕ → List ℕ → List ℕ → Type 0
-IsIndex file s order = Index (fieldsOf file) (rankOf file) s order
+use Rattle.keys.specs.KeyFiles.{IsIndex}
+use Rattle.lines.specs.Index.{rankAt}
 
 -- the key at entry i, as a rank
 abbrev pub entryRank : ℕ → List ℕ → List ℕ → ℕ → ℕ

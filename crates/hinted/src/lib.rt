@@ -13,8 +13,8 @@ ghost use Rattle.file.specs.Records.{recordsIn};
 ghost use Rattle.keys.specs.Keys.{none};
 ghost use Rattle.keys.specs.Ranks.{rankOf, rankKey};
 ghost use Rattle.lines.specs.Index.{Start};
-ghost use Rattle.keys.specs.KeyFiles.{KeyFile};
-ghost use Rattle.hinted.specs.Hinted.{Goes, IsIndex, Looked, Lower};
+ghost use Rattle.keys.specs.KeyFiles.{KeyFile, IsIndex};
+ghost use Rattle.hinted.specs.Hinted.{Goes, Looked, Lower};
 
 // How many records a file has.
 pub fn count(file: u64, s: &[u8]) -> usize

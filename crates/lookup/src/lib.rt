@@ -108,8 +108,8 @@ pub fn survey<'a>(
     }
 }
 
-// The part of the list that is a file's index; empty if there is none.
-fn index_of<'o>(order: &'o [u32], ways: &[usize], file: u64) -> &'o [u32]
+// inner: the part of the list that is a file's index; empty if there is none
+pub fn index_of<'o>(order: &'o [u32], ways: &[usize], file: u64) -> &'o [u32]
     requires { ⌜ (file < 11) × (33 ≤ length (now ways)) × (fromOf (now ways) file ≤ toOf (now ways) file) × (toOf (now ways) file ≤ length (now order)) ⌝ }
     ensures { λ r. ⌜ now r ≡ partOf (now (order .entry)) (fromOf (now (ways .entry)) file) (toOf (now (ways .entry)) file) ⌝ }
 {

@@ -1,11 +1,9 @@
 -- `find::by_search` meets its contract. The loop's invariant: the first record with the key from the one at `at` on is the first of all.
 use mathlib.Core.Path.{_≡_, refl, sym, _∙_}
-use mathlib.Core.Bool.{true, false}
 use Prim.Native.Nat.{_-_}
 use native.Mathlib.Omega.{arith}
-use borrow.Author.Needs.{needs}
 use borrow.Author.Tests.{eqb-true, eqb-false}
-use lib.ListN.{length, drop}
+use lib.ListN.{length}
 use denote.Ref.{now}
 use Rattle.file.specs.Files.{fieldsOf}
 use Rattle.file.specs.Records.{recordsIn}
@@ -13,7 +11,7 @@ use Rattle.lines.specs.Order.{firstRanked}
 use Rattle.lines.proofs.LineLaws.{place-start, next-line}
 use Rattle.lines.proofs.OrderLaws.{first-hit, first-turn, first-end}
 use Rattle.keys.specs.KeyFiles.{PlaceIn, recordsFrom}
-use Rattle.keys.specs.Ranks.{rankOf, rankKey, recordAt}
+use Rattle.keys.specs.Ranks.{rankOf, rankKey}
 use Rattle.keys.proofs.KeyFileLaws.{key-here}
 use Rattle.find.proofs.by_search.Statement.{statement}
 use Rattle.find.proofs.by_search.Tie as tie

@@ -1,10 +1,7 @@
 -- `find::with_one` meets its contract: it asks for the key's rank.
-use mathlib.Core.Path.{_≡_, sym, _∙_}
-use mathlib.Core.List.{List, [], _∷_}
-use Prim.Native.Nat.{ℕ}
-use native.Mathlib.Omega.{arith}
+use mathlib.Core.Path.{sym, _∙_}
+use mathlib.Core.List.{[], _∷_}
 use borrow.Author.Needs.{needs}
-use denote.Ref.{now}
 use Rattle.find.proofs.FindLaws.{rank-one, small-one, by-key}
 use Rattle.find.proofs.with_one.Statement.{statement}
 use Rattle.find.proofs.with_one.Tie as tie

@@ -15,8 +15,8 @@ ghost use Prim.Native.Nat.{_<_};
 ghost use lib.ListN.{length};
 ghost use Rattle.file.specs.Files.{fieldsOf};
 ghost use Rattle.file.specs.Records.{recordsIn};
-ghost use Rattle.keys.specs.Keys.{keyFields, none, lesser, firstWith, nextNumber, nextOf};
-ghost use Rattle.keys.specs.Ranks.{rankOf, rankKey};
+ghost use Rattle.keys.specs.Keys.{keyFields, keyOf, none, lesser, has, firstWith, nextNumber, nextOf};
+ghost use Rattle.keys.specs.Ranks.{rankOf, rankKey, recordAt};
 ghost use Rattle.lines.specs.Order.{firstRanked};
 ghost use Rattle.keys.specs.KeyFiles.{KeyFile, KeysRise, PlaceIn, IsIndex};
 ghost use Rattle.find.specs.Find.{Serves, Asks, tripAt};
@@ -90,22 +90,45 @@ pub fn with_one(file: u64, s: &[u8], rises: bool, part: &[u32], last: usize, a: 
 }
 
 // inner: the numbers a and b
-pub fn with_two(file: u64, s: &[u8], rises: bool, part: &[u32], last: usize, a: u64, b: u64) -> Found
+pub fn with_two(
+    file: u64,
+    s: &[u8],
+    rises: bool,
+    part: &[u32],
+    last: usize,
+    a: u64,
+    b: u64,
+) -> Found
     requires { ⌜ Asks file (now s) rises (now part) last 2 × (a < none) × (b < none) ⌝ }
     ensures { λ r. ⌜ r ≡ firstWith file (a ∷ b ∷ []) 0 (recordsIn (fieldsOf file) (now (s .entry))) ⌝ }
 {
-    first_ranked(file, s, rises, part, last, Key { hi: a * 1000000000 + b, lo: 0 })
+    first_ranked(
+        file,
+        s,
+        rises,
+        part,
+        last,
+        Key {
+            hi: a * 1000000000 + b,
+            lo: 0,
+        },
+    )
 }
 
 // inner: the numbers a, b and c
-pub fn with_three(file: u64, s: &[u8], rises: bool, part: &[u32], last: usize, a: u64, b: u64, c: u64) -> Found
+pub fn with_three(
+    file: u64,
+    s: &[u8],
+    rises: bool,
+    part: &[u32],
+    last: usize,
+    a: u64,
+    b: u64,
+    c: u64,
+) -> Found
     requires { ⌜ Asks file (now s) rises (now part) last 3 × (a < none) × (b < none) × (c < none) ⌝ }
     ensures { λ r. ⌜ r ≡ firstWith file (a ∷ b ∷ c ∷ []) 0 (recordsIn (fieldsOf file) (now (s .entry))) ⌝ }
 {
-<<<<<<< HEAD
-    first_ranked(file, s, rises, part, last, Key { hi: a * 1000000000 + b, lo: c })
-}
-=======
     let hi = a * 1000000000 + b;
     first_ranked(file, s, rises, part, last, Key { hi: hi, lo: c })
 }
@@ -226,4 +249,14 @@ pub fn next_of_trip(
     }
     next_by_search(file, s, line, trip, x)
 }
->>>>>>> find2
+
+// inner: whether a record before the one that starts at `at` has its key
+pub fn used_before(file: u64, s: &[u8], rises: bool, part: &[u32], at: usize) -> bool
+    requires { ⌜ Serves file (now s) rises (now part) × PlaceIn file (now s) at × (at < length (now s)) ⌝ }
+    ensures { λ r. ⌜ ((p : PlaceIn file (now (s .entry)) at) → r ≡ has file (keyOf file (recordAt file (now (s .entry)) at)) (p .past)) ⌝ }
+{
+    match first_ranked(file, s, rises, part, at, key_at(file, s, at)) {
+        Found::At(first) => first < at,
+        Found::Nothing => false,
+    }
+}

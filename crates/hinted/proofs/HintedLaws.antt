@@ -91,8 +91,8 @@ module _ (file : ℕ) (s order : List ℕ) where
         }
 
   -- all of them
-  pub seen-all : (was : ℕ) (k : Key) (kind i : ℕ) → length order ≡ length (recordsIn (fieldsOf file) s) → Seen was k kind i → length order ≤ i
-      → Looked file s order kind
+  pub seen-all : (was : ℕ) (k : Key) (kind i : ℕ) → length order ≡ length (recordsIn (fieldsOf file) s) → Seen was k kind i
+      → length order ≤ i → Looked file s order kind
   seen-all was k kind i e seen h = record {
     index = λ q. index-is (fieldsOf file) (rankOf file) s order e (λ j l. seen .good j (omega arith));
     apart = λ q j l. seen .apart q j (omega (arith, seen .near));
@@ -146,12 +146,14 @@ module _ (file : ℕ) (s order : List ℕ) (index : IsIndex file s order) where
         (λ h. let ne = g h in omega (arith, l .«from» h, ne))
 
     -- keys that rise from entry to entry: no record has the key of an earlier one
-    pub apart-once : KeysApart file s order → (at : ℕ) (p : PlaceIn file s at) → at < length s → has file (keyOf file (recordAt file s at)) (p .past) ≡ false
+    pub apart-once : KeysApart file s order → (at : ℕ) (p : PlaceIn file s at) → at < length s
+        → has file (keyOf file (recordAt file s at)) (p .past) ≡ false
     apart-once apart at p h =
         let r = recordAt file s at in
         let n = fieldsOf file in
         let up : (i j : ℕ) → i + 1 ≡ j → j < length order → entryRank file s order i < entryRank file s order j =
         λ i j e l. let g = apart i (omega arith) in rw e at g in
         let a = keyed-init file (p .past) (recordsIn n (drop at s)) (rw (p .whole) at (f .keys)) in
-        has-rank file (keyOf file r) (f .keyed) (key-small (keyFields file) r (key-here file s at f p h .numbers)) (key-size file r) (p .past) a
+        let small = key-small (keyFields file) r (key-here file s at f p h .numbers) in
+        has-rank file (keyOf file r) (f .keyed) small (key-size file r) (p .past) a
         ∙ distinct-entries n (rankOf file) s order (f .legal) index up at p h

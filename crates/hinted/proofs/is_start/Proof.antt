@@ -21,7 +21,8 @@ returns-3 c =
     λ e.
     let b = c .before .before .before in
     let a = b .args in
-    start-after (fieldsOf (a .file)) (rankOf (a .file)) (now (a .s)) (a .x) (b .pre .0 .legal) (omega arith) (omega arith) (b .pre .1) (eqb-true _ _ e)
+    start-after (fieldsOf (a .file)) (rankOf (a .file)) (now (a .s)) (a .x) (b .pre .0 .legal)
+    (omega arith) (omega arith) (b .pre .1) (eqb-true _ _ e)
 
 pub is-start-spec : {M : Type 1} → statement M
 is-start-spec =

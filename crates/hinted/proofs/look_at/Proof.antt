@@ -1,6 +1,5 @@
 -- `hinted::look_at` meets its contract. The loop's invariant is what is known of the entries below `i`.
-use mathlib.Core.Path.{_≡_}
-use Prim.Native.Nat.{ℕ, _-_, _<_}
+use Prim.Native.Nat.{_-_}
 use native.Mathlib.Omega.{arith}
 use lib.ListN.{length, getD}
 use denote.Ref.{now}
@@ -40,7 +39,8 @@ key-at-requires c κs =
 loop-holds : tie.Need-loop-holds Inv-loop μ-loop
 loop-holds c =
     let a = c .before .before .before .before .before .before .before .args in
-    seen-first (a .file) (now (a .s)) (now (a .order)) (c .key-at .result) (omega arith) (c .before .before .is-start .ensures (not-false _ (c .before .if2 .left))) (c .key-at .ensures)
+    let w = c .before .before .is-start .ensures (not-false _ (c .before .if2 .left)) in
+    seen-first (a .file) (now (a .s)) (now (a .order)) (c .key-at .result) (omega arith) w (c .key-at .ensures)
 
 cast-x : tie.Need-cast-x Inv-loop μ-loop
 cast-x c = omega (arith, c .shared-slice-known4 .given (c .before .before .loop .i))
@@ -65,7 +65,8 @@ step-requires : tie.Need-step-requires Inv-loop μ-loop
 step-requires c κs =
     let l = c .before .before .before .before .before .loop in
     let w = c .before .before .is-start2 .ensures (not-false _ (c .before .if3 .left)) in
-    (l .inv .key .low, c .key-at2 .ensures .low, omega (arith, l .inv .entry, l .inv .good (l .i - 1) (omega (arith, l .inv .some)) .start .small), w .small)
+    let v = l .inv .good (l .i - 1) (omega (arith, l .inv .some)) .start in
+    (l .inv .key .low, c .key-at2 .ensures .low, omega (arith, l .inv .entry, v .small), w .small)
 
 returns-4 : tie.Need-returns-4 Inv-loop μ-loop
 returns-4 c = record { index = λ q. absurd (omega arith); apart = λ q. absurd (omega arith) }

@@ -49,12 +49,10 @@ loop-again c =
     let b = p .before .before .before in
     let a = b .args in
     let k = c .before .before .key-at in
-    let h = ltb-true (rankKey (k .result)) (rankKey (a .x)) (sym (c .before .less .ensures) ∙ c .if1 .taken) in (
-      omega arith,
-      omega arith,
-      index-below (fieldsOf (a .file)) (rankOf (a .file)) (now (a .s)) (now (a .order)) (rankKey (a .x)) (b .pre .1) (mid (c .before .before .before .before)) (omega arith) (rw (k .ensures .rank) at h),
-      p .loop .inv .3,
-    )
+    let m = mid (c .before .before .before .before) in
+    let h = ltb-true (rankKey (k .result)) (rankKey (a .x)) (sym (c .before .less .ensures) ∙ c .if1 .taken) in
+    let up = index-below (fieldsOf (a .file)) (rankOf (a .file)) (now (a .s)) (now (a .order)) (rankKey (a .x)) (b .pre .1) in
+    (omega arith, omega arith, up m (omega arith) (rw (k .ensures .rank) at h), p .loop .inv .3)
 
 loop-again-2 : tie.Need-loop-again-2 Inv-loop μ-loop
 loop-again-2 c =

@@ -6,7 +6,11 @@
 //!
 //! It was written from document 01 and the tables of document 000 alone. It needs nothing but Rust's standard library.
 
+mod asker;
 mod batch_faults;
+mod batch_large;
+mod batch_met;
+mod batch_pairs;
 mod batch_questions;
 mod batches;
 mod calendar;
@@ -169,9 +173,9 @@ fn compare_links(command: &[String]) -> Report {
     step(&mut report, command, "a code twice", batch_questions::codes_twice);
     step(&mut report, command, "seat tickets", batch_questions::seats);
     step(&mut report, command, "digits as they fall", batch_questions::as_they_fall);
-    step(&mut report, command, "two faults", batch_questions::two_faults);
-    step(&mut report, command, "large files", batch_questions::large_files);
-    step(&mut report, command, "the longest file and list", batch_questions::longest);
+    step(&mut report, command, "two faults", batch_pairs::two_faults);
+    step(&mut report, command, "large files", batch_large::large_files);
+    step(&mut report, command, "the longest file and list", batch_large::longest);
     report
 }
 
@@ -227,7 +231,7 @@ fn main() {
         }
         ["compare", "links", _, ..] => {
             let mut report = compare_links(&arguments[2..]);
-            batch_questions::told(&mut report);
+            batch_met::told(&mut report);
             report
         }
         ["samples", folder] => {

@@ -613,23 +613,23 @@ void batch_order(struct batch *batch)
     for (f = ZASTAVKY; f <= CASKODY; f++) {
         const uint8_t *bytes = batch->bytes[f];
         size_t length = batch->length[f], records = count_records(bytes, length);
-        struct place *places = space((records + 1) * sizeof *places);
+        struct place *keys = space((records + 1) * sizeof *keys);
         int rise = 1;
         for (i = 0, at = 0; i < records; i++, at = next_record(bytes, length, at)) {
-            memset(&places[i], 0, sizeof places[i]);
+            memset(&keys[i], 0, sizeof keys[i]);
             for (k = 0; k < key_fields[f]; k++)
-                places[i].key[k] = batch_number(bytes + at, k + 1);
+                keys[i].key[k] = batch_number(bytes + at, k + 1);
             /* Starts are 0 while neighbours are compared, so that equal keys are seen. */
-            rise = rise && (i == 0 || by_key(&places[i - 1], &places[i]) < 0);
+            rise = rise && (i == 0 || by_key(&keys[i - 1], &keys[i]) < 0);
         }
         for (i = 0, at = 0; i < records; i++, at = next_record(bytes, length, at))
-            places[i].start = (uint32_t)at;
+            keys[i].start = (uint32_t)at;
         if (!rise) {
-            qsort(places, records, sizeof *places, by_key);
+            qsort(keys, records, sizeof *keys, by_key);
             for (i = 0; i < records; i++)
-                batch->order[batch->count++] = places[i].start;
+                batch->order[batch->count++] = keys[i].start;
         }
-        free(places);
+        free(keys);
     }
 }
 

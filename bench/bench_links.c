@@ -238,81 +238,106 @@ static void target(double ratio, double most)
     printf(" (at most %.1f: %s)", most, ratio <= most ? "met" : "missed");
 }
 
-/* Nanoseconds of the stage for each byte. */
-struct speed {
-    double sorted, shuffled;
+/* What is timed: on the sorted batch and on the shuffled one. A stage is the whole without the scan and the fields, of the same moment. */
+enum { SCAN, FIELDS, WHOLE, STAGE, PLAIN, SHUFFLED_FIELDS, SHUFFLED_WHOLE, SHUFFLED_STAGE, SHUFFLED_PLAIN, TIMES };
+
+struct run {
+    size_t length;
+    int repeats; /* in each round; a small batch is soon read */
+    struct batch sorted, shuffled;
+    double *times[TIMES];
+    int count;
 };
 
-static struct speed bench(uint64_t seed, size_t length, int rounds)
+static void open_run(struct run *run, uint64_t seed, int rounds)
 {
-    static double scan[MOST_ROUNDS], fields[MOST_ROUNDS], whole[MOST_ROUNDS], stage[MOST_ROUNDS], plain[MOST_ROUNDS];
-    static double fields_other[MOST_ROUNDS], whole_other[MOST_ROUNDS], stage_other[MOST_ROUNDS], plain_other[MOST_ROUNDS];
-    struct batch sorted, shuffled;
-    struct speed speed;
-    double bytes, s, p, q, c, d;
-    int i;
-    batch_make(&sorted, seed, length);
-    batch_shuffle(&shuffled, &sorted, seed + 1);
-    bytes = (double)batch_length(&sorted);
-    if (compare("the batch", &sorted, 0).number != 0 || compare("the batch, shuffled", &shuffled, 0).number != 0) {
+    int i, damage = run->length > 1000000 ? FEW_DAMAGES : DAMAGES;
+    batch_make(&run->sorted, seed, run->length);
+    batch_shuffle(&run->shuffled, &run->sorted, seed + 1);
+    if (compare("the batch", &run->sorted, 0).number != 0 || compare("the batch, shuffled", &run->shuffled, 0).number != 0) {
         fprintf(stderr, "bench: the batch doesn't stand\n");
         exit(1);
     }
-    compare_damaged(&sorted, length > 1000000 ? FEW_DAMAGES : DAMAGES, 0);
-    compare_damaged(&shuffled, length > 1000000 ? FEW_DAMAGES : DAMAGES, 0);
-    for (i = 0; i < rounds; i++) {
-        scan[i] = time_scan(&sorted);
-        fields[i] = time_fields(&sorted);
-        whole[i] = time_links(&sorted);
-        plain[i] = time_plain(&sorted);
-        fields_other[i] = time_fields(&shuffled);
-        whole_other[i] = time_hinted(&shuffled);
-        plain_other[i] = time_plain(&shuffled);
-        stage[i] = whole[i] - fields[i];
-        stage_other[i] = whole_other[i] - fields_other[i];
+    compare_damaged(&run->sorted, damage, 0);
+    compare_damaged(&run->shuffled, damage, 0);
+    run->count = 0;
+    for (i = 0; i < TIMES; i++) {
+        run->times[i] = malloc((size_t)(rounds * run->repeats) * sizeof(double));
+        if (run->times[i] == NULL)
+            exit(2);
     }
-    s = median(scan, rounds);
-    p = median(stage, rounds);
-    q = median(stage_other, rounds);
-    c = median(plain, rounds);
-    d = median(plain_other, rounds);
-    printf("batch of %.1f MB: bare scan %.2f ms, scan and fields %.2f ms\n", bytes / 1e6, s, median(fields, rounds));
-    printf("  rising keys         whole %8.2f ms, stage %8.2f ms, %5.2f ns/byte; stage %.2f times the bare scan", median(whole, rounds), p,
-           p * 1e6 / bytes, p / s);
-    target(p / s, 6);
-    printf("\n                      plain C %6.2f ms, %.2f ns/byte; stage %.2f times the plain C\n", c, c * 1e6 / bytes, p / c);
-    printf("  shuffled, with hint whole %8.2f ms, stage %8.2f ms, %5.2f ns/byte; stage %.2f times that on rising keys", median(whole_other, rounds), q,
-           q * 1e6 / bytes, q / p);
-    target(q / p, 3);
-    printf("\n                      plain C %6.2f ms, %.2f ns/byte; stage %.2f times the plain C\n", d, d * 1e6 / bytes, q / d);
-    speed.sorted = p / bytes;
-    speed.shuffled = q / bytes;
-    batch_free(&sorted);
-    batch_free(&shuffled);
-    return speed;
 }
 
-/* A small batch in no order, without a hint: the answer is the same, and it comes. */
-static void bench_small(uint64_t seed, int rounds)
+static void round_of(struct run *run)
+{
+    int i;
+    for (i = 0; i < run->repeats; i++) {
+        double **t = run->times;
+        int n = run->count++;
+        t[SCAN][n] = time_scan(&run->sorted);
+        t[FIELDS][n] = time_fields(&run->sorted);
+        t[WHOLE][n] = time_links(&run->sorted);
+        t[PLAIN][n] = time_plain(&run->sorted);
+        t[SHUFFLED_FIELDS][n] = time_fields(&run->shuffled);
+        t[SHUFFLED_WHOLE][n] = time_hinted(&run->shuffled);
+        t[SHUFFLED_PLAIN][n] = time_plain(&run->shuffled);
+        t[STAGE][n] = t[WHOLE][n] - t[FIELDS][n];
+        t[SHUFFLED_STAGE][n] = t[SHUFFLED_WHOLE][n] - t[SHUFFLED_FIELDS][n];
+    }
+}
+
+/* Milliseconds for each byte: of the stage, and of the plain C on rising keys. */
+struct speed {
+    double sorted, shuffled, plain;
+};
+
+static struct speed close_run(struct run *run)
+{
+    double bytes = (double)batch_length(&run->sorted), m[TIMES];
+    int i;
+    for (i = 0; i < TIMES; i++) {
+        m[i] = median(run->times[i], run->count);
+        free(run->times[i]);
+    }
+    printf("batch of %.1f MB: bare scan %.2f ms, scan and fields %.2f ms\n", bytes / 1e6, m[SCAN], m[FIELDS]);
+    printf("  rising keys         whole %8.2f ms, stage %8.2f ms, %5.2f ns/byte; stage %.2f times the bare scan", m[WHOLE], m[STAGE], m[STAGE] * 1e6 / bytes,
+           m[STAGE] / m[SCAN]);
+    target(m[STAGE] / m[SCAN], 6);
+    printf("\n                      plain C %6.2f ms, %.2f ns/byte; stage %.2f times the plain C\n", m[PLAIN], m[PLAIN] * 1e6 / bytes, m[STAGE] / m[PLAIN]);
+    printf("  shuffled, with hint whole %8.2f ms, stage %8.2f ms, %5.2f ns/byte; stage %.2f times that on rising keys", m[SHUFFLED_WHOLE], m[SHUFFLED_STAGE],
+           m[SHUFFLED_STAGE] * 1e6 / bytes, m[SHUFFLED_STAGE] / m[STAGE]);
+    target(m[SHUFFLED_STAGE] / m[STAGE], 3);
+    printf("\n                      plain C %6.2f ms, %.2f ns/byte; stage %.2f times the plain C\n", m[SHUFFLED_PLAIN], m[SHUFFLED_PLAIN] * 1e6 / bytes,
+           m[SHUFFLED_STAGE] / m[SHUFFLED_PLAIN]);
+    batch_free(&run->sorted);
+    batch_free(&run->shuffled);
+    return (struct speed){m[STAGE] / bytes, m[SHUFFLED_STAGE] / bytes, m[PLAIN] / bytes};
+}
+
+/* A small batch in no order, without a hint or with a wrong one: the answer is the same, and it comes. */
+static void bench_small(uint64_t seed, size_t length, int rounds)
 {
     static double fields[MOST_ROUNDS], whole[MOST_ROUNDS], hinted[MOST_ROUNDS];
     struct batch sorted, shuffled;
     slovdrim_links_answer a;
     int i;
-    batch_make(&sorted, seed, 20000);
+    batch_make(&sorted, seed, length);
     batch_shuffle(&shuffled, &sorted, seed + 1);
     compare("the small batch", &sorted, 1);
     compare("the small batch, shuffled", &shuffled, 1);
     compare_damaged(&sorted, DAMAGES, 1);
     compare_damaged(&shuffled, DAMAGES, 1);
-    /* A wrong hint changes no answer. */
-    shuffled.order[shuffled.count / 2] += 1;
+    shuffled.order[shuffled.count / 2]++;
     a = proved_hinted(&shuffled, shuffled.order, shuffled.count);
     if (a.number != 0)
-        fail("a wrong hint", a);
-    a = proved_hinted(&shuffled, shuffled.order, shuffled.count - 1);
+        fail("a hint beside a record", a);
+    shuffled.order[shuffled.count / 2] = shuffled.order[0];
+    a = proved_hinted(&shuffled, shuffled.order, shuffled.count);
     if (a.number != 0)
-        fail("a short hint", a);
+        fail("a hint out of order", a);
+    a = proved_hinted(&shuffled, shuffled.order, shuffled.count / 2);
+    if (a.number != 0)
+        fail("half a hint", a);
     batch_order(&shuffled);
     for (i = 0; i < rounds; i++) {
         fields[i] = time_fields(&shuffled);
@@ -327,23 +352,30 @@ static void bench_small(uint64_t seed, int rounds)
 
 int main(int argc, char **argv)
 {
-    static const size_t lengths[SIZES] = {1000000, 10000000, 60000000};
+    static struct run runs[SIZES] = {{.length = 1000000, .repeats = 9}, {.length = 10000000, .repeats = 3}, {.length = 60000000, .repeats = 1}};
     struct speed speed[SIZES];
     uint64_t seed = argc > 1 ? strtoull(argv[1], NULL, 10) : 1;
-    int rounds = argc > 2 ? atoi(argv[2]) : 9, i;
+    int rounds = argc > 2 ? atoi(argv[2]) : 9, i, round;
     double growth;
     if (seed == 0 || seed == UINT64_MAX || rounds < 1 || rounds > MOST_ROUNDS)
         return 2;
-    printf("keys, links and signs, medians of %d rounds\n", rounds);
-    bench_small(seed, rounds);
     for (i = 0; i < SIZES; i++)
-        speed[i] = bench(seed, lengths[i], rounds);
+        open_run(&runs[i], seed, rounds);
+    /* The batches take turns, so that a busy moment of the machine falls on all of them. */
+    for (round = 0; round < rounds; round++)
+        for (i = 0; i < SIZES; i++)
+            round_of(&runs[i]);
+    printf("keys, links and signs, medians of %d rounds\n", rounds);
+    for (i = 0; i < SIZES; i++)
+        speed[i] = close_run(&runs[i]);
     growth = speed[SIZES - 1].sorted / speed[0].sorted;
-    printf("time for each byte from %zu to %zu MB: rising keys grows by %.2f", lengths[0] / 1000000, lengths[SIZES - 1] / 1000000, growth);
+    printf("time for each byte from %zu to %zu MB: rising keys grows by %.2f", runs[0].length / 1000000, runs[SIZES - 1].length / 1000000, growth);
     target(growth, 1.5);
     growth = speed[SIZES - 1].shuffled / speed[0].shuffled;
     printf(", shuffled with hint by %.2f", growth);
     target(growth, 1.5);
-    printf("\n");
+    printf(", the plain C by %.2f\n", speed[SIZES - 1].plain / speed[0].plain);
+    bench_small(seed, 20000, rounds);
+    bench_small(seed, 50000, rounds);
     return 0;
 }

@@ -13,6 +13,7 @@ ghost use Rattle.keys.specs.Keys.{none};
 ghost use Rattle.keys.specs.Ranks.{rankOf, rankKey};
 ghost use Rattle.lines.specs.Order.{isRising, firstFrom};
 ghost use Rattle.keys.specs.KeyFiles.{KeyFile, KeysRise, PlaceIn, recordsFrom};
+ghost use Rattle.ordered.specs.Narrowing.{Narrows, Narrowed};
 
 // Whether every key is above those before it.
 pub fn rising(file: u64, s: &[u8]) -> bool
@@ -100,34 +101,64 @@ fn one_less(n: u64) -> u64 {
     n - 1
 }
 
+// What is left of a search: the record is sought from lo on, and none that starts from hi on is below it; and the keys that were seen.
+struct Left {
+    lo: usize,
+    hi: usize,
+    below: u64,
+    above: u64,
+}
+
+// One look: at the record behind the next LF from `mid` on.
+fn look(file: u64, s: &[u8], left: Left, mid: usize, x: Key) -> Left
+    requires { ⌜ Narrows file (now s) (rankKey x) (left .lo) (left .hi) mid × (x .lo < none) ⌝ }
+    ensures { λ r. ⌜ Narrowed file (now (s .entry)) (rankKey x) (left .lo) (left .hi) (r .lo) (r .hi) ⌝ }
+{
+    let to = line_after(s, mid);
+    if to >= left.hi {
+        return Left {
+            lo: left.lo,
+            hi: mid,
+            below: left.below,
+            above: left.above,
+        };
+    }
+    let k = key_at(file, s, to);
+    if less(k, x) {
+        return Left {
+            lo: to,
+            hi: left.hi,
+            below: k.hi,
+            above: left.above,
+        };
+    }
+    Left {
+        lo: left.lo,
+        hi: mid,
+        below: left.below,
+        above: k.hi,
+    }
+}
+
 // The same of the whole file, by bisection: behind the next LF from a place on a record starts. The first looks go where the keys that were
-// seen let expect x, and the others to the middle.
+// seen let expect x, the others to the middle; the last few bytes are gone through.
 fn bisect(file: u64, s: &[u8], x: Key) -> usize
     requires { ⌜ KeyFile file (now s) × KeysRise file (now s) × (x .lo < none) ⌝ }
     ensures { λ r. ⌜ r ≡ firstFrom (rankOf file) (rankKey x) 0 (recordsIn (fieldsOf file) (now (s .entry))) ⌝ }
 {
-    let mut lo = 0;
-    let mut hi = s.len();
-    let mut below: u64 = 0;
-    let mut above: u64 = 0;
-    let mut left: u64 = 6;
-    while lo < hi {
-        let mid = next_look(lo, hi, below, above, x.hi, left);
-        let to = line_after(s, mid);
-        if to >= hi {
-            return scan(file, s, lo, x);
-        }
-        let k = key_at(file, s, to);
-        left = one_less(left);
-        if less(k, x) {
-            lo = to;
-            below = k.hi;
-        } else {
-            hi = mid;
-            above = k.hi;
-        }
+    let mut left = Left {
+        lo: 0,
+        hi: s.len(),
+        below: 0,
+        above: 0,
+    };
+    let mut guesses: u64 = 6;
+    while left.lo + 128 < left.hi {
+        let mid = next_look(left.lo, left.hi, left.below, left.above, x.hi, guesses);
+        left = look(file, s, left, mid, x);
+        guesses = one_less(guesses);
     }
-    scan(file, s, lo, x)
+    scan(file, s, left.lo, x)
 }
 
 // inner: the same, with the place that was found last and the one behind it tried first: neighbouring records ask neighbouring questions

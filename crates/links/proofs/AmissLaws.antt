@@ -5,11 +5,11 @@ use mathlib.Core.List.{List, [], _∷_}
 use Prim.Native.Nat.{ℕ}
 use lib.Dec.{eqb}
 use lib.ListN.{length}
-use borrow.Author.Tests.{eq-eqb, ne-eqb}
+use borrow.Author.Tests.{eq-eqb, ne-eqb, not-true}
 use Rattle.laws.specs.Tests.{pick, both, oneOf, either}
 use Rattle.file.specs.Format.{Fields}
 use Rattle.field.specs.Names.{field}
-use Rattle.field.specs.Values.{isEmpty, value}
+use Rattle.field.specs.Values.{isEmpty, given, value}
 use Rattle.walk.specs.declared.Found.{Found}
 use Rattle.walk.specs.declared.Found.the-variants.{At, Nothing}
 use Rattle.keys.specs.Keys.{numbers, has, firstWith}
@@ -38,11 +38,17 @@ two-key f g a b r e h = rw (e, h)
 
 -- what a search found says whether there is such a record
 module _ (file : ℕ) {j k : List ℕ} (rs : List Fields) (s : j ≡ k) {found : Found} (e : found ≡ firstWith file j 0 rs) where
+  pub found-has : (p : ℕ) → found ≡ At p → has file k rs ≡ true
+  found-has p t = has-found file k 0 rs p (rw s at (sym e ∙ t))
+
+  pub nothing-has : found ≡ Nothing → has file k rs ≡ false
+  nothing-has t = has-none file k 0 rs (rw s at (sym e ∙ t))
+
   pub found-met : (p : ℕ) → found ≡ At p → 0 ≡ unmet (has file k rs)
-  found-met p t = rw (has-found file k 0 rs p (rw s at (sym e ∙ t)))
+  found-met p t = rw (found-has p t)
 
   pub nothing-met : found ≡ Nothing → 8 ≡ unmet (has file k rs)
-  nothing-met t = rw (has-none file k 0 rs (rw s at (sym e ∙ t)))
+  nothing-met t = rw (nothing-has t)
 
 -- each link but a code has a sign that fits, so the link is all
 module _ (b : Batch) (file f : ℕ) (r : Fields) where
@@ -97,38 +103,43 @@ module _ (b : Batch) (file f : ℕ) (r : Fields) where
     unfolding amiss met signFits reaches target linkFields
     code-found z h = rw (← e, z, h)
 
-  -- the sign of a code that is given
-  module _ (g : isEmpty (field f r) ≡ false) {sign : ℕ} (e : sign ≡ signOf b (value (field f r))) where
-    abbrev first : ℕ
-    first = signOf b (value (field 6 r))
+  -- Zasspoje's second code, and any other
+  pub is-second : file ≡ 8 → f ≡ 7 → both (eqb file 8) (eqb f 7) ≡ true
+  is-second e h = rw (eq-eqb file 8 e, eq-eqb f 7 h)
 
-    fits : isPermitted file sign ≡ true → codeFits b file f r ≡ sameSign b file f r
-    unfolding codeFits
-    fits p = rw (g, ← e, p)
+  pub other-file : (file ≡ 8 → ⊥) → both (eqb file 8) (eqb f 7) ≡ false
+  other-file n = rw (ne-eqb file 8 n)
 
+  pub other-field : file ≡ 8 → (f ≡ 7 → ⊥) → both (eqb file 8) (eqb f 7) ≡ false
+  other-field e n = rw (eq-eqb file 8 e, ne-eqb f 7 n)
+
+  -- the sign of a code that is given: refused, or permitted
+  module _ (g : given (field f r) ≡ true) {sign : ℕ} (e : sign ≡ signOf b (value (field f r))) where
     pub sign-refused : isPermitted file sign ≡ false → 9 ≡ unfit (codeFits b file f r)
     unfolding codeFits
-    sign-refused p = rw (g, ← e, p)
+    sign-refused p = rw (not-true (isEmpty (field f r)) g, ← e, p)
 
-    -- permitted, and no second code of Zasspoje
-    pub sign-alone : isPermitted file sign ≡ true → both (eqb file 8) (eqb f 7) ≡ false → 0 ≡ unfit (codeFits b file f r)
-    unfolding sameSign
-    sign-alone p h = rw (fits p, h)
+    module _ (p : isPermitted file sign ≡ true) where
+      fits : codeFits b file f r ≡ sameSign b file f r
+      unfolding codeFits
+      fits = rw (not-true (isEmpty (field f r)) g, ← e, p)
 
-    -- permitted, and the first code is empty, or has the same sign, or another
-    pub sign-first : isPermitted file sign ≡ true → isEmpty (field 6 r) ≡ true → 0 ≡ unfit (codeFits b file f r)
-    unfolding sameSign
-    sign-first p z = rw (fits p, z) (both-ways (both (eqb file 8) (eqb f 7)))
-      where
-        both-ways : (t : Bool) → 0 ≡ unfit (pick t true true)
-        both-ways true = refl
-        both-ways false = refl
-
-    module _ (p : isPermitted file sign ≡ true) (h : both (eqb file 8) (eqb f 7) ≡ true) (z : isEmpty (field 6 r) ≡ false) where
-      pub sign-same : eqb first sign ≡ true → 0 ≡ unfit (codeFits b file f r)
+      -- no second code of Zasspoje
+      pub sign-alone : both (eqb file 8) (eqb f 7) ≡ false → 0 ≡ unfit (codeFits b file f r)
       unfolding sameSign
-      sign-same q = rw (fits p, h, z, ← e, q)
+      sign-alone h = rw (fits, h)
 
-      pub sign-other : eqb first sign ≡ false → 9 ≡ unfit (codeFits b file f r)
-      unfolding sameSign
-      sign-other q = rw (fits p, h, z, ← e, q)
+      -- one whose first code is empty, or has the same sign, or another
+      module _ (h : both (eqb file 8) (eqb f 7) ≡ true) where
+        pub sign-first : isEmpty (field 6 r) ≡ true → 0 ≡ unfit (codeFits b file f r)
+        unfolding sameSign
+        sign-first z = rw (fits, h, z)
+
+        module _ (z : isEmpty (field 6 r) ≡ false) {first : ℕ} (q : first ≡ signOf b (value (field 6 r))) where
+          pub sign-same : first ≡ sign → 0 ≡ unfit (codeFits b file f r)
+          unfolding sameSign
+          sign-same s = rw (fits, h, z, ← e, ← q, eq-eqb first sign s)
+
+          pub sign-other : (first ≡ sign → ⊥) → 9 ≡ unfit (codeFits b file f r)
+          unfolding sameSign
+          sign-other s = rw (fits, h, z, ← e, ← q, ne-eqb first sign s)

@@ -2,12 +2,13 @@
 use mathlib.Core.Path.{_≡_, refl, sym, ap, _∙_}
 use mathlib.Core.Bool.{Bool, true, false}
 use mathlib.Core.List.{List, [], _∷_, _++_}
+use mathlib.Core.Logic.{_⊎_, inl, inr}
 use Prim.Native.Nat.{ℕ, _+_, _-_, _≤_, _<_}
 use native.Mathlib.Omega.{arith}
 use lib.Dec.{eqb, ltb}
 use lib.ListN.{length, getD, drop, length-append}
 use lib.Seq.{getD-append-add}
-use borrow.Author.Tests.{ltb-true, ltb-false}
+use borrow.Author.Tests.{eqb-true, ltb-true, ltb-false}
 use Rattle.laws.specs.Tests.{pick, both, oneOf, either, never}
 use Rattle.file.specs.Files.{fieldsOf, fieldCounts}
 use Rattle.file.specs.Format.{Text, Fields, writtenRecord, written}
@@ -17,7 +18,7 @@ use Rattle.field.specs.Kinds as kind
 use Rattle.field.specs.Kinds.{kinds, kindOf, signs, admits}
 use Rattle.field.specs.Names.{field}
 use Rattle.field.specs.Stage.{firstUnkind}
-use Rattle.field.specs.Values.{isByte, among, allDigits, isDigits, value}
+use Rattle.field.specs.Values.{isEmpty, isByte, among, allDigits, isDigits, value}
 use Rattle.walk.specs.Walk.{LegalFrom, Cuts, partOf}
 use Rattle.walk.specs.declared.Found.{Found}
 use Rattle.walk.specs.declared.Found.the-variants.{At, Nothing}
@@ -30,11 +31,11 @@ use Rattle.keys.proofs.KeyLaws.{has-found, has-none}
 use Rattle.rules.specs.Texts.{texts, Kinded}
 use Rattle.rules.proofs.KindLaws.{text-at}
 use Rattle.link.specs.Links.{linkOf, target, linkFields, reaches, met}
-use Rattle.link.specs.Numeric.{numeric, NumberAt, CodeAt}
+use Rattle.link.specs.Numeric.{numeric, codeKind, NumberAt, CodeAt}
 use Rattle.link.specs.Signs.{firstByte, signIn, signOf, isPermitted, sameSign, codeFits, signFits}
 use Rattle.link.specs.Stage.{amiss}
 use Rattle.link.specs.declared.Link.{Link}
-use Rattle.link.proofs.KindOfLinks.{digits-small, number-kind}
+use Rattle.link.proofs.KindOfLinks.{digits-small, number-kind, code-text}
 use Rattle.lookup.specs.Ways.{Lasts}
 use Rattle.thirteen.specs.Batch.{Batch, fileIn, recordsOf}
 use Rattle.links.specs.Sound.{AllOfKind, OfKind, StopsMet, Known, Record}
@@ -49,14 +50,29 @@ pub record Numeral (t : Text) : Type 0 where
 pub numeral : (t : Text) → isDigits 1 9 t ≡ true → Numeral t
 numeral t e = let d = digits-small t e in record { digits = d .0; most = omega (arith, d .1); small = d .2 }
 
--- a field that is a number, of a record that was cut
-module _ {file : ℕ} {s places : List ℕ} (k : Kinded file s places) (f : ℕ) (n : NumberAt file f) {t : Text} (e : t ≡ partOf s places (f - 1)) where
-  pub number-text : field f (texts file s places) ≡ t
-  number-text = text-at k (f - 1) (omega (arith, n .1, n .2)) e
+-- a field of a record that was cut: the text that was taken for it, a number, and a code that is given
+module _ {file : ℕ} {s places : List ℕ} (k : Kinded file s places) (f : ℕ) {t : Text} (e : t ≡ partOf s places (f - 1)) where
+  text-of : 1 ≤ f → f ≤ fieldsOf file → field f (texts file s places) ≡ t
+  text-of h l = text-at k (f - 1) (omega arith) e
 
-  pub number-part : Numeral t
-  number-part =
-      numeral t (rw number-text at (number-kind file (texts file s places) (k .kinds) (cut-size (fieldsOf file) s places) f n))
+  module _ (n : NumberAt file f) where
+    pub number-text : field f (texts file s places) ≡ t
+    number-text = text-of (n .1) (n .2)
+
+    pub number-part : Numeral t
+    number-part =
+        numeral t (rw number-text at (number-kind file (texts file s places) (k .kinds) (cut-size (fieldsOf file) s places) f n))
+
+  module _ (n : CodeAt file f) where
+    pub code-field : field f (texts file s places) ≡ t
+    code-field = text-of (n .1) (n .2)
+
+    pub code-part : (length t ≡ 0 → ⊥) → Numeral t
+    code-part z = go (rw code-field at (code-text file (texts file s places) (k .kinds) (cut-size (fieldsOf file) s places) f n))
+      where
+        go : (isEmpty t ≡ true) ⊎ (isDigits 1 9 t ≡ true) → Numeral t
+        go (inl p) = absurd (z (eqb-true (length t) 0 p))
+        go (inr p) = numeral t p
 
 -- all records are of their kinds: so are the last ones, and so is the first
 kinds-tail : (file : ℕ) (a b : List Fields) → AllOfKind file (a ++ b) → AllOfKind file b
@@ -161,6 +177,11 @@ sign-given t e = given-sign signs t e
 pub stop-number : NumberAt 7 4
 unfolding numeric kindOf kinds kind.zaslinky fieldsOf fieldCounts
 stop-number = (refl, omega arith, omega arith)
+
+-- Zasspoje's first code is a code
+pub first-code : (file : ℕ) → file ≡ 8 → CodeAt file 6
+unfolding codeKind kindOf kinds kind.zasspoje fieldsOf fieldCounts
+first-code file e = rw e (refl, omega arith, omega arith)
 
 -- what is known where a record is looked at
 module _ {b : Batch} {file : ℕ} {order ways last class : List ℕ} (k : Known b file order ways last class) where

@@ -12,15 +12,15 @@ use Rattle.links.proofs.record.number_of.Tie as tie
 value-of-requires : tie.Need-value-of-requires
 value-of-requires c κs =
     let start = c .before .before in
-    let n = number-part (start .pre .0) (start .args .f) (start .pre .1) (c .part .ensures) in
+    let n = number-part (start .pre .0) (start .args .f) (c .part .ensures) (start .pre .1) in
     (n .digits, n .most)
 
 returns : tie.Need-returns
 returns c =
     let start = c .before .before .before in
     let part = c .before .part in
-    let n = number-part (start .pre .0) (start .args .f) (start .pre .1) (part .ensures) in
-    let e = number-text (start .pre .0) (start .args .f) (start .pre .1) (part .ensures) in
+    let n = number-part (start .pre .0) (start .args .f) (part .ensures) (start .pre .1) in
+    let e = number-text (start .pre .0) (start .args .f) (part .ensures) (start .pre .1) in
     (c .value-of .ensures ∙ ap (λ (t : Text). value t) (sym e), rw (c .value-of .ensures) (n .small))
 
 pub number-of-spec : {M : Type 1} → statement M

@@ -26,7 +26,7 @@ unfolding fieldsOf fieldCounts
 value-of-requires c κs =
     let start = c .before .before .before .before .before in
     let k = cut-kinded 7 (now (start .args .s)) (start .args .at) (start .pre .1) (start .pre .2) (start .pre .3) (c .before .before .cut .ensures) in
-    let n = number-part k 4 stop-number (c .part .ensures) in
+    let n = number-part k 4 (c .part .ensures) stop-number in
     (n .digits, n .most)
 
 returns : tie.Need-returns
@@ -36,7 +36,7 @@ returns c =
     let s = now (start .args .s) in
     let cut = c .before .before .before .cut .ensures in
     let k = cut-kinded 7 s (start .args .at) (start .pre .1) (start .pre .2) (start .pre .3) cut in
-    let e = number-text k 4 stop-number (c .before .part .ensures) in
+    let e = number-text k 4 (c .before .part .ensures) stop-number in
     c .value-of .ensures ∙ ap (λ (t : Text). value t) (sym e) ∙ ap (λ (r : Fields). value (field 4 r)) (sym (cut-first 7 s (start .args .at) _ _ _ cut))
 
 pub stop-at-spec : {M : Type 1} → statement M

@@ -50,6 +50,17 @@ module _ (file : ℕ) {j k : List ℕ} (rs : List Fields) (s : j ≡ k) {found :
   pub nothing-met : found ≡ Nothing → 8 ≡ unmet (has file k rs)
   nothing-met t = rw (nothing-has t)
 
+-- Zasspoje's second code, and any other
+module _ (file f : ℕ) where
+  pub is-second : file ≡ 8 → f ≡ 7 → both (eqb file 8) (eqb f 7) ≡ true
+  is-second e h = rw (eq-eqb file 8 e, eq-eqb f 7 h)
+
+  pub other-file : (file ≡ 8 → ⊥) → both (eqb file 8) (eqb f 7) ≡ false
+  other-file n = rw (ne-eqb file 8 n)
+
+  pub other-field : file ≡ 8 → (f ≡ 7 → ⊥) → both (eqb file 8) (eqb f 7) ≡ false
+  other-field e n = rw (eq-eqb file 8 e, ne-eqb f 7 n)
+
 -- each link but a code has a sign that fits, so the link is all
 module _ (b : Batch) (file f : ℕ) (r : Fields) where
   pub free-amiss : Link.Free ≡ linkOf file f → 0 ≡ amiss b file r f
@@ -102,16 +113,6 @@ module _ (b : Batch) (file f : ℕ) (r : Fields) where
     pub code-found : isEmpty (field f r) ≡ false → has 3 (numbers (f ∷ []) r) (recordsOf b 3) ≡ true → unfit (codeFits b file f r) ≡ amiss b file r f
     unfolding amiss met signFits reaches target linkFields
     code-found z h = rw (← e, z, h)
-
-  -- Zasspoje's second code, and any other
-  pub is-second : file ≡ 8 → f ≡ 7 → both (eqb file 8) (eqb f 7) ≡ true
-  is-second e h = rw (eq-eqb file 8 e, eq-eqb f 7 h)
-
-  pub other-file : (file ≡ 8 → ⊥) → both (eqb file 8) (eqb f 7) ≡ false
-  other-file n = rw (ne-eqb file 8 n)
-
-  pub other-field : file ≡ 8 → (f ≡ 7 → ⊥) → both (eqb file 8) (eqb f 7) ≡ false
-  other-field e n = rw (eq-eqb file 8 e, ne-eqb f 7 n)
 
   -- the sign of a code that is given: refused, or permitted
   module _ (g : given (field f r) ≡ true) {sign : ℕ} (e : sign ≡ signOf b (value (field f r))) where

@@ -13,7 +13,7 @@ use Rattle.links.proofs.record.sign_of.Tie as tie
 
 -- the start of the function, and the batch that was lent
 abbrev begin : tie.After-slice-known → tie.Start
-begin c = c .before .before .before .before .before .before .before .before .before .before .before .before .before .before .before
+begin c = c .before .before .before .before .before .before .before .before .before .before .before .before .before .before .before .before
 
 abbrev files : tie.Start → Batch
 files c = let a = c .args in thirteen (now (a .f1)) (now (a .f2)) (now (a .f3)) (now (a .f4)) (now (a .f5)) (now (a .f6)) (now (a .f7)) (now (a .f8)) (now (a .f9)) (now (a .f10)) (now (a .f11)) (now (a .f12)) (now (a .f13))

@@ -12,14 +12,14 @@ use Rattle.laws.specs.Below.{below}
 use Rattle.laws.specs.Tests.{pick, both, either, never}
 use Rattle.laws.specs.Numbered.{Numbered, answered, refusedIn}
 use Rattle.file.specs.Files.{fieldCounts, fieldsOf}
-use Rattle.file.specs.Format.{Fields}
+use Rattle.file.specs.Format.{Fields, written}
 use Rattle.file.specs.Records.{recordsIn}
 use Rattle.file.specs.Reader.{Classes}
 use Rattle.field.specs.Stage.{firstUnkind}
 use Rattle.walk.specs.Walk.{LegalFrom, Parted, Cuts, cutRecord}
 use Rattle.walk.proofs.WalkLaws.{cut-size, cut-first, none-left}
 use Rattle.rules.specs.Texts.{texts, Kinded}
-use Rattle.lines.proofs.LineLaws.{cut-next, place-start, size-append, size-one}
+use Rattle.lines.proofs.LineLaws.{cut-next, size-append, size-one}
 use Rattle.keys.specs.Keys.{keyTable, keyFields, keyOf, numbers, has}
 use Rattle.keys.specs.Ranks.{IsKeyed, recordAt}
 use Rattle.keys.specs.KeyFiles.{PlaceIn}
@@ -29,9 +29,10 @@ use Rattle.link.specs.Signs.{signFits}
 use Rattle.link.specs.Stage.{isUsed, amiss, firstAmiss, fieldAmiss, recordFault, faultsFrom, linkFault, linksFault, numberedLinked}
 use Rattle.link.proofs.FaultLaws.{file-clean, first-wrong}
 use Rattle.link.proofs.TableLaws.{record-length}
-use Rattle.lookup.specs.Ways.{Looks, Lasts}
+use Rattle.find.specs.Find.{Serves}
+use Rattle.lookup.specs.Ways.{Looks, Lasts, Way, howOf, fromOf, toOf, partOf, apart}
 use Rattle.thirteen.specs.Batch.{Batch, fileIn, recordsOf, overFiles}
-use Rattle.links.specs.Sound.{SoundFiles, AllOfKind, StopsMet, Known, Record}
+use Rattle.links.specs.Sound.{SoundFiles, AllOfKind, StopsMet, Known, Record, UsedAsked, Used}
 use Rattle.links.proofs.SoundLaws.{sound-kinds}
 
 -- The fields of a record from f on, of n in all.
@@ -72,6 +73,19 @@ amiss-nine b file r f = go (met b (linkOf file f) f r) (signFits b file (linkOf 
     go true false p q = refl
     go false s p q = absurd (q refl)
 
+-- What is known of a record stays known where other places were found last.
+pub looks-lasts : (b : Batch) (order ways last new : List ℕ) → Looks b order ways last → Lasts b new → Looks b order ways new
+looks-lasts b order ways last new k l = record { size = k .size; routes = k .routes; lasts = l }
+
+pub known-lasts : (b : Batch) (file : ℕ) (order ways last class new : List ℕ) → Known b file order ways last class → Lasts b new → Known b file order ways new class
+known-lasts b file order ways last class new k l =
+    record { sound = k .sound; looks = looks-lasts b order ways last new (k .looks) l; table = k .table; stops = k .stops }
+
+pub record-lasts : (b : Batch) (file : ℕ) (s places order ways last class new : List ℕ) → Record b file s places order ways last class → Lasts b new
+    → Record b file s places order ways new class
+record-lasts b file s places order ways last class new r l =
+    record { known = known-lasts b file order ways last class new (r .known) l; kinded = r .kinded }
+
 -- Files 11-13 have no keys, and there are none behind them.
 no-fields : (file : ℕ) → 10 < file → keyFields file ≡ []
 unfolding keyFields keyTable
@@ -89,6 +103,31 @@ pub key-used : (file : ℕ) (past : List Fields) (r : Fields) → IsKeyed file �
 unfolding isUsed
 key-used file past r k = rw (ne-eqb (length (keyFields file)) 0 (λ e. omega (arith, key-fields file k .0)))
 
+-- What is asked of the place of a record says whether its key is used: of a file with none, of one whose keys are all different, of any other.
+module _ (file : ℕ) (s : List ℕ) (at : ℕ) (order ways : List ℕ) (q : UsedAsked file s at order ways) where
+  pub used-keyless : 10 < file → Used file s at false
+  used-keyless h p = sym (no-key file (p .past) (recordAt file s at) h)
+
+  module _ (h : file ≤ 10) where
+    pub way-here : Way file s order (howOf ways file) (fromOf ways file) (toOf ways file)
+    way-here = q .way (q .low, h)
+
+    used-apart : apart (howOf ways file) ≡ true → Used file s at false
+    used-apart e p = sym (key-used file (p .past) (recordAt file s at) (q .low, h) ∙ way-here .once e at p (q .more))
+
+    pub used-rising : howOf ways file ≡ 1 → Used file s at false
+    used-rising e = used-apart (rw e)
+
+    pub used-index : howOf ways file ≡ 2 → Used file s at false
+    used-index e = used-apart (rw e)
+
+    -- the search may go by the index, if there is one
+    pub serves-part : (part : List ℕ) → part ≡ partOf order (fromOf ways file) (toOf ways file) → Serves file s false part
+    serves-part part e = rw e (record { keyed = way-here .serves .keyed; up = λ z. never z; index = way-here .serves .index })
+
+    pub used-found : (r : Bool) → ((p : PlaceIn file s at) → r ≡ has file (keyOf file (recordAt file s at)) (p .past)) → Used file s at r
+    used-found r e p = e p ∙ sym (key-used file (p .past) (recordAt file s at) (q .low, h))
+
 -- Where a file's records were gone through up to `at`, the first of the rest being record k: the first fault of the rest is the file's.
 pub record Left (b : Batch) (file : ℕ) (s : List ℕ) (at k : ℕ) : Type 0 where
   pub place : PlaceIn file s at
@@ -97,10 +136,10 @@ pub record Left (b : Batch) (file : ℕ) (s : List ℕ) (at k : ℕ) : Type 0 wh
 
 -- at the start
 pub left-start : (b : Batch) (file : ℕ) (s : List ℕ) → s ≡ fileIn b file → LegalFrom (fieldsOf file) (fileIn b file) 0 → Left b file s 0 1
-unfolding linkFault
+unfolding linkFault written
 left-start b file s e h =
     subst (λ (x : List ℕ). Left b file x 0 1) (sym e)
-    (record { place = place-start (fieldsOf file) (fileIn b file) h; count = omega arith; fault = refl })
+    (record { place = record { past = []; whole = refl; size = refl; legal = h; near = omega arith }; count = omega arith; fault = refl })
 
 -- at the end
 pub left-end : (b : Batch) (file : ℕ) (s : List ℕ) (at k : ℕ) → Left b file s at k → length s ≤ at → linkFault b file ≡ answered []

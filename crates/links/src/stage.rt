@@ -9,13 +9,15 @@ use lookup::survey;
 use thirteen::file_of;
 use walk::cut;
 ghost use mathlib.Core.Path.{_≡_};
-ghost use Prim.Native.Nat.{_≤_, _<_};
-ghost use lib.ListN.{length};
+ghost use Prim.Native.Nat.{_≤_};
+ghost use lib.Dec.{eqb};
+ghost use Rattle.laws.specs.Numbered.{refusedIn};
+ghost use Rattle.file.specs.Reader.{Classes};
 ghost use Rattle.rules.specs.Texts.{texts};
-ghost use Rattle.link.specs.Stage.{isUsed, fieldAmiss, linkFault, linksFault, numberedLinked};
-ghost use Rattle.lookup.specs.Ways.{Looks, Lasts, WayTo};
-ghost use Rattle.thirteen.specs.Batch.{thirteen, overFiles};
-ghost use Rattle.links.specs.Sound.{SoundFiles, Known, Record, StopsMet, Used};
+ghost use Rattle.link.specs.Stage.{amiss, fieldAmiss, linkFault, linksFault, numberedLinked};
+ghost use Rattle.lookup.specs.Ways.{Looks, Lasts};
+ghost use Rattle.thirteen.specs.Batch.{thirteen};
+ghost use Rattle.links.specs.Sound.{SoundFiles, Known, Record, UsedAsked, Used};
 
 // The first field of a record with which something is wrong; 0 if there is none.
 fn first_amiss<'a>(file: u64, s: &[u8], places: &[usize; 14], class: &[u8; 256], f1: &'a [u8], f2: &'a [u8], f3: &'a [u8], f4: &'a [u8], f5: &'a [u8], f6: &'a [u8], f7: &'a [u8], f8: &'a [u8], f9: &'a [u8], f10: &'a [u8], f11: &'a [u8], f12: &'a [u8], f13: &'a [u8], order: &[u32], ways: &[usize], last: &mut [usize]) -> u64
@@ -88,6 +90,18 @@ fn file_fault<'a>(file: u64, class: &[u8; 256], f1: &'a [u8], f2: &'a [u8], f3: 
     Linked::Sound
 }
 
+// Whether nothing is wrong.
+fn is_sound(found: Linked) -> bool
+    ensures { λ r. ⌜ r ≡ eqb (numberedLinked found .number) 0 ⌝ }
+{
+    match found {
+        Linked::Sound => true,
+        Linked::Used(_, _) => false,
+        Linked::Dangling(_, _, _) => false,
+        Linked::Misplaced(_, _, _) => false,
+    }
+}
+
 // The first fault of the files, in their order.
 fn files_fault<'a>(class: &[u8; 256], f1: &'a [u8], f2: &'a [u8], f3: &'a [u8], f4: &'a [u8], f5: &'a [u8], f6: &'a [u8], f7: &'a [u8], f8: &'a [u8], f9: &'a [u8], f10: &'a [u8], f11: &'a [u8], f12: &'a [u8], f13: &'a [u8], order: &[u32], ways: &[usize], last: &mut [usize]) -> Linked
     requires { ⌜ SoundFiles (thirteen (now f1) (now f2) (now f3) (now f4) (now f5) (now f6) (now f7) (now f8) (now f9) (now f10) (now f11) (now f12) (now f13)) × Looks (thirteen (now f1) (now f2) (now f3) (now f4) (now f5) (now f6) (now f7) (now f8) (now f9) (now f10) (now f11) (now f12) (now f13)) (now order) (now ways) (now last) × Classes (now class) ⌝ }
@@ -95,17 +109,9 @@ fn files_fault<'a>(class: &[u8; 256], f1: &'a [u8], f2: &'a [u8], f3: &'a [u8], 
 {
     let mut file: u64 = 2;
     while file < 14 {
-        match file_fault(file, class, f1, f2, f3, f4, f5, f6, f7, f8, f9, f10, f11, f12, f13, order, ways, last) {
-            Linked::Sound => {}
-            Linked::Used(a, k) => {
-                return Linked::Used(a, k);
-            }
-            Linked::Dangling(a, k, f) => {
-                return Linked::Dangling(a, k, f);
-            }
-            Linked::Misplaced(a, k, f) => {
-                return Linked::Misplaced(a, k, f);
-            }
+        let found = file_fault(file, class, f1, f2, f3, f4, f5, f6, f7, f8, f9, f10, f11, f12, f13, order, ways, last);
+        if !is_sound(found) {
+            return found;
         }
         file += 1;
     }

@@ -1,0 +1,71 @@
+-- `links::stage::first_amiss` meets its contract. The loop's invariant: the first field from f on with which something is wrong is the first
+-- of all.
+use mathlib.Core.Path.{_≡_, refl, sym, ap, _∙_}
+use Prim.Native.Nat.{ℕ, _+_, _-_, _≤_, _<_}
+use native.Mathlib.Omega.{arith}
+use borrow.Author.Needs.{needs}
+use lib.ListN.{length}
+use denote.Ref.{now}
+use Rattle.file.specs.Files.{fieldsOf}
+use Rattle.rules.specs.Texts.{texts}
+use Rattle.lookup.specs.Ways.{Lasts}
+use Rattle.thirteen.specs.Batch.{Batch, thirteen}
+use Rattle.link.specs.Stage.{firstAmiss, fieldAmiss}
+use Rattle.links.proofs.StageLaws.{amiss-start, amiss-turn, amiss-hit, amiss-done, record-lasts}
+use Rattle.links.proofs.stage.first_amiss.Statement.{statement}
+use Rattle.links.proofs.stage.first_amiss.Tie as tie
+
+abbrev Inv-loop : tie.InvT-loop
+Inv-loop file s places class f1 f2 f3 f4 f5 f6 f7 f8 f9 f10 f11 f12 f13 order ways last₀ n f₀ last f =
+    let b = thirteen f1 f2 f3 f4 f5 f6 f7 f8 f9 f10 f11 f12 f13 in
+    (1 ≤ f) × (n ≤ 13) × (f ≤ n + 1) × Lasts b last × (length last ≡ length last₀) × (firstAmiss b file (texts file s places) f (n + 1 - f) ≡ fieldAmiss b file (texts file s places))
+
+abbrev μ-loop : tie.MeasureT-loop
+μ-loop file s places class f1 f2 f3 f4 f5 f6 f7 f8 f9 f10 f11 f12 f13 order ways last₀ n f₀ last f = n + 1 - f
+
+-- src/stage.rt:29:5
+loop-holds : tie.Need-loop-holds Inv-loop μ-loop
+loop-holds c = ?
+
+-- src/stage.rt:30:12
+amiss-at-requires : tie.Need-amiss-at-requires Inv-loop μ-loop
+amiss-at-requires c κs = ?
+
+-- src/stage.rt:31:13
+same-length : tie.Need-same-length Inv-loop μ-loop
+same-length c = ?
+
+-- src/stage.rt:31:13
+returns : tie.Need-returns Inv-loop μ-loop
+returns c = 
+    let x = c .before .before .before .amiss-at in
+    let l = c .before .before .before .before .before .before .loop in
+    ?
+
+-- src/stage.rt:29:5
+loop-again : tie.Need-loop-again Inv-loop μ-loop
+loop-again c =
+    let x = c .before .before .before .amiss-at in
+    let l = c .before .before .before .before .before .before .loop in
+    ?
+
+-- src/stage.rt:23:1
+returns-2 : tie.Need-returns-2 Inv-loop μ-loop
+returns-2 c = ?
+
+pub first-amiss-spec : {M : Type 1} → statement M
+first-amiss-spec =
+    tie.close
+    (tie.spec
+    Inv-loop
+    μ-loop
+    (λ c κs. search needs)  -- fields-of-requires
+    loop-holds
+    amiss-at-requires
+    same-length
+    returns
+    (λ c. omega arith)  -- add-f
+    (λ c. omega arith)  -- loop-less
+    loop-again
+    (λ c. c .before .loop .inv .4)  -- same-length-2
+    returns-2)

@@ -18,11 +18,11 @@ use Rattle.lines.specs.Lines.{behind}
 use Rattle.lines.specs.Order.{firstRanked, firstFrom, Above, Rising}
 use Rattle.lines.proofs.LineLaws.{size-one, Onward, place-on, place-start, next-line, next-at}
 use Rattle.lines.proofs.OrderLaws.{hit-anywhere, from-place, from-rank}
-use Rattle.keys.specs.Keys.{keyTable, keyFields, none, ofTrip, third, lesser, firstWith, nextNumber, nextOf}
+use Rattle.keys.specs.Keys.{keyFields, none, ofTrip, third, lesser, firstWith, nextNumber, nextOf}
 use Rattle.keys.specs.Ranks.{rank, rankOf, rankKey, Numbers, IsKeyed, KeyIs, recordAt}
 use Rattle.keys.specs.KeyFiles.{KeyFile, KeysRise, PlaceIn, IsIndex, recordsFrom}
 use Rattle.keys.specs.declared.Key.{Key}
-use Rattle.keys.proofs.TableLaws.{one-of}
+use Rattle.keys.proofs.TableLaws.{keyed-one, keyed-two, keyed-nine, keyed-three}
 use Rattle.keys.proofs.KeyLaws.{trip-of, of-trip, third-small}
 use Rattle.keys.proofs.KeyFileLaws.{key-here, first-with}
 use Rattle.hinted.specs.Hinted.{entryRank, Lower}
@@ -32,22 +32,15 @@ use Rattle.find.proofs.FindLaws.{small-three}
 
 -- a key of three numbers is that of fields 1, 2 and 3
 three-fields : (file : ℕ) → IsKeyed file → length (keyFields file) ≡ 3 → keyFields file ≡ 1 ∷ 2 ∷ 3 ∷ []
-unfolding keyFields keyTable
-three-fields file k =
-    one-of (λ (f : ℕ). length (keyFields f) ≡ 3 → keyFields f ≡ 1 ∷ 2 ∷ 3 ∷ []) 2 9 (
-      λ e. absurd (omega arith),
-      (
-        λ e. absurd (omega arith),
-        (
-          λ e. absurd (omega arith),
-          (
-            λ e. absurd (omega arith),
-            (λ e. absurd (omega arith), (λ e. absurd (omega arith), (λ e. refl, (λ e. absurd (omega arith), (λ e. refl, tt))))),
-          ),
-        ),
-      ),
-    )
-    file (k .0) (omega arith)
+three-fields file k e =
+    let past : 8 ≤ file =
+    either (ltb file 6)
+    (λ t. absurd (omega (arith, ap length (keyed-one file (k .0) (ltb-true file 6 t)))))
+    (λ t.
+    either (ltb file 8)
+    (λ u. absurd (omega (arith, ap length (keyed-two file (ltb-false file 6 t) (ltb-true file 8 u)))))
+    (λ u. ltb-false file 8 u)) in
+    keyed-three file past (k .1) (λ z. omega (arith, ap length (keyed-nine file z)))
 
 -- the lesser of two numbers, as a difference
 lesser-is : (a b : ℕ) → lesser a b ≡ a - (a - b)

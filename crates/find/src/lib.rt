@@ -45,9 +45,9 @@ fn by_index(file: u64, s: &[u8], order: &[u32], k: Key) -> Found
     if i >= order.len() {
         return Found::Nothing;
     }
-    let at = order[i] as usize;
-    if equal(key_at(file, s, at), k) {
-        return Found::At(at);
+    let place = order[i] as usize;
+    if equal(key_at(file, s, place), k) {
+        return Found::At(place);
     }
     Found::Nothing
 }

@@ -6,7 +6,7 @@ use keys::key_at;
 use keys::less;
 use lines::line_after;
 ghost use mathlib.Core.Path.{_≡_};
-ghost use Prim.Native.Nat.{_<_};
+ghost use Prim.Native.Nat.{_+_, _^_, _≤_, _<_};
 ghost use Rattle.file.specs.Files.{fieldsOf};
 ghost use Rattle.file.specs.Records.{recordsIn};
 ghost use Rattle.keys.specs.Keys.{none};
@@ -50,23 +50,81 @@ fn scan(file: u64, s: &[u8], from: usize, x: Key) -> usize
     at
 }
 
-// The same of the whole file, by bisection: behind the next LF from the middle on a record starts.
+// A place from lo on and before hi to look at next: as far on the way as x is between the keys that were seen below it and above it, to
+// one part in 4096; the middle, where that says nothing.
+fn guess(lo: usize, hi: usize, below: u64, above: u64, x: u64) -> usize
+    requires { ⌜ lo < hi ⌝ }
+    ensures { λ r. ⌜ (lo ≤ r) × (r < hi) ⌝ }
+{
+    let size = hi - lo;
+    if x <= below {
+        return lo + size / 2;
+    }
+    if above <= x {
+        return lo + size / 2;
+    }
+    let parts = (x - below) / ((above - below) / 4096 + 1);
+    if parts >= 4096 {
+        return lo + size / 2;
+    }
+    part_of_way(lo, size, parts as usize)
+}
+
+// So many of 4096 parts of the way.
+fn part_of_way(lo: usize, size: usize, parts: usize) -> usize
+    requires { ⌜ (0 < size) × (lo + size < 2 ^ 64) × (parts < 4096) ⌝ }
+    ensures { λ r. ⌜ (lo ≤ r) × (r < lo + size) ⌝ }
+{
+    if size < 4096 {
+        return lo + size * parts / 4096;
+    }
+    lo + size / 4096 * parts
+}
+
+// Where to look next: so many looks go by the keys that were seen, the others to the middle, so that their number stays that of a bisection.
+fn next_look(lo: usize, hi: usize, below: u64, above: u64, x: u64, left: u64) -> usize
+    requires { ⌜ lo < hi ⌝ }
+    ensures { λ r. ⌜ (lo ≤ r) × (r < hi) ⌝ }
+{
+    if left == 0 {
+        return lo + (hi - lo) / 2;
+    }
+    guess(lo, hi, below, above, x)
+}
+
+// One less, as long as there is one.
+fn one_less(n: u64) -> u64 {
+    if n == 0 {
+        return 0;
+    }
+    n - 1
+}
+
+// The same of the whole file, by bisection: behind the next LF from a place on a record starts. The first looks go where the keys that were
+// seen let expect x, and the others to the middle.
 fn bisect(file: u64, s: &[u8], x: Key) -> usize
     requires { ⌜ KeyFile file (now s) × KeysRise file (now s) × (x .lo < none) ⌝ }
     ensures { λ r. ⌜ r ≡ firstFrom (rankOf file) (rankKey x) 0 (recordsIn (fieldsOf file) (now (s .entry))) ⌝ }
 {
     let mut lo = 0;
     let mut hi = s.len();
+    let mut below: u64 = 0;
+    let mut above: u64 = 0;
+    let mut left: u64 = 6;
     while lo < hi {
-        let mid = lo + (hi - lo) / 2;
+        let mid = next_look(lo, hi, below, above, x.hi, left);
         let to = line_after(s, mid);
         if to >= hi {
             return scan(file, s, lo, x);
         }
-        if less(key_at(file, s, to), x) {
+        let k = key_at(file, s, to);
+        left = one_less(left);
+        if less(k, x) {
             lo = to;
+            below = k.hi;
         } else {
             hi = mid;
+            above = k.hi;
         }
     }
     scan(file, s, lo, x)

@@ -5,8 +5,8 @@ use mathlib.Core.Bool.{Bool, true, false}
 use mathlib.Core.List.{List, [], _∷_, _++_, append-assoc}
 use Prim.Native.Nat.{ℕ, zero, suc, _+_, _-_, _≤_, _<_}
 use native.Mathlib.Omega.{arith}
-use lib.Dec.{eqb, ltb}
-use lib.ListN.{length, getD, drop, List·getD-eq-default}
+use lib.Dec.{eqb, ltb, leb, leb→le}
+use lib.ListN.{length, getD, drop, replicate, List·getD-eq-default}
 use borrow.Author.Tests.{eqb-true, eqb-false, eq-eqb, ne-eqb, ltb-true, ltb-false}
 use Rattle.laws.specs.Below.{below}
 use Rattle.laws.specs.Tests.{pick, both, either, never}
@@ -16,10 +16,10 @@ use Rattle.file.specs.Format.{Fields, written}
 use Rattle.file.specs.Records.{recordsIn}
 use Rattle.file.specs.Reader.{Classes}
 use Rattle.field.specs.Stage.{firstUnkind}
-use Rattle.walk.specs.Walk.{LegalFrom, Parted, Cuts, cutRecord}
+use Rattle.walk.specs.Walk.{LegalFrom, RecordAt, Cuts}
 use Rattle.walk.proofs.WalkLaws.{cut-size, cut-first, none-left}
 use Rattle.rules.specs.Texts.{texts, Kinded}
-use Rattle.lines.proofs.LineLaws.{cut-next, size-append, size-one}
+use Rattle.lines.proofs.LineLaws.{cut-next, place-start, size-append, size-one}
 use Rattle.keys.specs.Keys.{keyTable, keyFields, keyOf, numbers, has}
 use Rattle.keys.specs.Ranks.{IsKeyed, recordAt}
 use Rattle.keys.specs.KeyFiles.{PlaceIn}
@@ -27,12 +27,12 @@ use Rattle.keys.proofs.TableLaws.{one-of, key-fields}
 use Rattle.link.specs.Links.{links, zaslinky, linkOf, target, linkFields, reaches, met}
 use Rattle.link.specs.Signs.{signFits}
 use Rattle.link.specs.Stage.{isUsed, amiss, firstAmiss, fieldAmiss, recordFault, faultsFrom, linkFault, linksFault, numberedLinked}
-use Rattle.link.proofs.FaultLaws.{file-clean, first-wrong}
+use Rattle.link.proofs.FaultLaws.{file-clean, file-settled, first-wrong}
 use Rattle.link.proofs.TableLaws.{record-length}
 use Rattle.find.specs.Find.{Serves}
 use Rattle.lookup.specs.Ways.{Looks, Lasts, Way, howOf, fromOf, toOf, partOf, apart}
 use Rattle.thirteen.specs.Batch.{Batch, fileIn, recordsOf, overFiles}
-use Rattle.links.specs.Sound.{SoundFiles, AllOfKind, StopsMet, Known, Record, UsedAsked, Used}
+use Rattle.links.specs.Sound.{SoundFile, SoundFiles, AllOfKind, StopsMet, Known, Record, UsedAsked, Used}
 use Rattle.links.proofs.SoundLaws.{sound-kinds}
 
 -- The fields of a record from f on, of n in all.
@@ -85,6 +85,17 @@ pub record-lasts : (b : Batch) (file : ℕ) (s places order ways last class new 
     → Record b file s places order ways new class
 record-lasts b file s places order ways last class new r l =
     record { known = known-lasts b file order ways last class new (r .known) l; kinded = r .kinded }
+
+-- no file has more than thirteen fields in a record
+few : ℕ → Bool
+few k = leb (fieldsOf k) 13
+
+pub fields-few : (file : ℕ) → fieldsOf file ≤ 13
+unfolding few fieldsOf fieldCounts
+fields-few file =
+    either (ltb file 14)
+    (λ e. leb→le (fieldsOf file) 13 (below 14 few tt file (ltb-true file 14 e)))
+    (λ e. let z : fieldsOf file ≡ 0 = List·getD-eq-default (0 ∷ fieldCounts) 0 (ltb-false file 14 e) in omega arith)
 
 -- Files 11-13 have no keys, and there are none behind them.
 no-fields : (file : ℕ) → 10 < file → keyFields file ≡ []
@@ -146,42 +157,82 @@ pub left-end : (b : Batch) (file : ℕ) (s : List ℕ) (at k : ℕ) → Left b f
 unfolding faultsFrom
 left-end b file s at k l h = sym (l .fault) ∙ rw (none-left (fieldsOf file) s at h)
 
--- a record that was cut
-module _ (b : Batch) (file : ℕ) (s : List ℕ) (at k : ℕ) (old places : List ℕ) (next : ℕ) (l : Left b file s at k) (c : Cuts (fieldsOf file) s at old places next) where
+-- where bytes are left, a record can be cut, and it is asked whether its key is used
+module _ (b : Batch) (file : ℕ) (s : List ℕ) (at k : ℕ) (l : Left b file s at k) (h : at < length s) where
+  pub left-record : (n : ℕ) → n ≡ fieldsOf file → RecordAt n s at
+  left-record n e = rw e (record { legal = l .place .legal; more = h; room = fields-few file })
+
+  pub left-asked : (order ways last class : List ℕ) → 2 ≤ file → s ≡ fileIn b file → Known b file order ways last class → UsedAsked file s at order ways
+  left-asked order ways last class low e q =
+      record {
+        low = low;
+        size = q .looks .size;
+        way = λ y. rw e (q .looks .routes file y);
+        place = l .place;
+        more = h;
+      }
+
+-- a record among others that are of their kinds
+kind-among : (file : ℕ) (past : List Fields) (r : Fields) (rest : List Fields) → AllOfKind file (past ++ (r ∷ rest)) → firstUnkind file 1 r ≡ 0
+unfolding AllOfKind
+kind-among file [] r rest a = a .0
+kind-among file (q ∷ past) r rest a = kind-among file past r rest (a .1)
+
+-- a record that was cut, where n is how many fields the file's records have
+module _ (b : Batch) (file : ℕ) (s : List ℕ) (at k n : ℕ) (old places : List ℕ) (next : ℕ) (l : Left b file s at k) (fields : n ≡ fieldsOf file) (d : Cuts n s at old places next) where
+  c : Cuts (fieldsOf file) s at old places next
+  c = subst (λ (m : ℕ). Cuts m s at old places next) fields d
+
   abbrev r : Fields
   r = texts file s places
 
-  -- what an answer says of its key
-  used-here : (u : Bool) → ((p : PlaceIn file s at) → u ≡ isUsed file (p .past) (recordAt file s at)) → isUsed file (l .place .past) r ≡ u
-  used-here u h = ap (λ (x : Fields). isUsed file (l .place .past) x) (sym (cut-first (fieldsOf file) s at old places next c)) ∙ sym (h (l .place))
+  abbrev rest : List Fields
+  rest = recordsIn (fieldsOf file) (drop next s)
 
-  -- its key is used
-  pub left-used : isUsed file (l .place .past) r ≡ true → refusedIn 7 file k 0 ≡ linkFault b file
-  unfolding faultsFrom recordFault
-  left-used u = rw (c .rest, u) at (l .fault)
+  whole : recordsIn (fieldsOf file) s ≡ l .place .past ++ (r ∷ rest)
+  whole = l .place .whole ∙ ap (λ (x : List Fields). l .place .past ++ x) (c .rest)
 
-  -- something is wrong with field f
-  pub left-amiss : isUsed file (l .place .past) r ≡ false → (f : ℕ) → f ≡ fieldAmiss b file r → (f ≡ 0 → ⊥)
-      → refusedIn (amiss b file r f) file k f ≡ linkFault b file
-  unfolding faultsFrom recordFault
-  left-amiss u f e h = rw (c .rest, u, ← e, ne-eqb f 0 h) at (l .fault)
+  -- its fields are of their kinds
+  pub left-kinded : s ≡ fileIn b file → SoundFile b file → Kinded file s places
+  left-kinded e f =
+      let a : AllOfKind file (recordsIn (fieldsOf file) s) = rw e (sound-kinds b file f) in
+      record { parted = c .parted; kinds = kind-among file (l .place .past) r rest (rw whole at a) }
 
-  -- nothing is: the next one comes
-  pub left-next : isUsed file (l .place .past) r ≡ false → fieldAmiss b file r ≡ 0 → Left b file s next (k + 1)
-  unfolding faultsFrom recordFault
-  left-next u e =
-      let p = l .place in
-      record {
-        place = record {
-          past = p .past ++ (r ∷ []);
-          whole = p .whole ∙ ap (λ (x : List Fields). p .past ++ x) (c .rest) ∙ sym (append-assoc (p .past) (r ∷ []) (recordsIn (fieldsOf file) (drop next s)));
-          size = omega (arith, size-append (p .past) (r ∷ []), size-one r, p .size, cut-next (fieldsOf file) s at old places next p c .size);
-          legal = c .legal;
-          near = c .near;
-        };
-        count = omega (arith, l .count, c .far);
-        fault = rw (c .rest, u, eq-eqb (fieldAmiss b file r) 0 e) at (l .fault);
-      }
+  -- the answer to whether its key is used
+  module _ (u : Bool) (h : Used file s at u) where
+    used-here : isUsed file (l .place .past) r ≡ u
+    used-here = ap (λ (x : Fields). isUsed file (l .place .past) x) (sym (cut-first (fieldsOf file) s at old places next c)) ∙ sym (h (l .place))
+
+    -- it is
+    pub left-used : u ≡ true → refusedIn 7 file k 0 ≡ linkFault b file
+    unfolding faultsFrom recordFault
+    left-used t = rw (c .rest, used-here ∙ t) at (l .fault)
+
+    -- something is wrong with field f
+    pub left-amiss : u ≡ false → (f : ℕ) → f ≡ fieldAmiss b file r → (f ≡ 0 → ⊥) → refusedIn (amiss b file r f) file k f ≡ linkFault b file
+    unfolding faultsFrom recordFault
+    left-amiss t f e z = rw (c .rest, used-here ∙ t, ← e, ne-eqb f 0 z) at (l .fault)
+
+    -- nothing is: the next one comes
+    pub left-next : u ≡ false → (f : ℕ) → f ≡ fieldAmiss b file r → f ≡ 0 → Left b file s next (k + 1)
+    unfolding faultsFrom recordFault
+    left-next t f e z =
+        let p = l .place in
+        record {
+          place = record {
+            past = p .past ++ (r ∷ []);
+            whole = whole ∙ sym (append-assoc (p .past) (r ∷ []) rest);
+            size = omega (arith, size-append (p .past) (r ∷ []), size-one r, p .size, cut-next (fieldsOf file) s at old places next p c .size);
+            legal = c .legal;
+            near = c .near;
+          };
+          count = omega (arith, l .count, c .far);
+          fault = rw (c .rest, used-here ∙ t, ← e, eq-eqb f 0 z) at (l .fault);
+        }
+
+-- with the first field that is found something is wrong
+pub amiss-found : (b : Batch) (file : ℕ) (r : Fields) (f : ℕ) → f ≡ fieldAmiss b file r → (f ≡ 0 → ⊥) → amiss b file r f ≡ 0 → ⊥
+amiss-found b file r f e h z = first-wrong b file r 1 (length r) (λ y. h (e ∙ y)) (ap (amiss b file r) (sym e) ∙ z)
 
 -- The stop of each Zaslinky record is met where file 7 has no fault.
 pub stops-met : (b : Batch) → linkFault b 7 ≡ answered [] → StopsMet b
@@ -192,21 +243,75 @@ stops-met b e i h =
 
 -- The files from one on, up to file 13.
 module _ (fault : ℕ → Numbered) (file : ℕ) where
-  -- a file has none
-  pub over-next : file < 14 → fault file .number ≡ 0 → overFiles fault file (14 - file) ≡ overFiles fault (file + 1) (14 - (file + 1))
-  unfolding overFiles
-  over-next h e =
-      let z : 14 - file ≡ suc (14 - (file + 1)) = omega arith in
-      rw (z, eq-eqb (fault file .number) 0 e)
-
-  -- a file has one
-  pub over-stop : file < 14 → (fault file .number ≡ 0 → ⊥) → overFiles fault file (14 - file) ≡ fault file
-  unfolding overFiles
-  over-stop h e =
-      let z : 14 - file ≡ suc (14 - (file + 1)) = omega arith in
-      rw (z, ne-eqb (fault file .number) 0 e)
-
   -- none are left
-  pub over-done : 14 ≤ file → overFiles fault file (14 - file) ≡ answered []
+  over-done : 14 ≤ file → overFiles fault file (14 - file) ≡ answered []
   unfolding overFiles
   over-done h = let z : 14 - file ≡ 0 = omega arith in rw z
+
+  module _ (h : file < 14) where
+    turn : 14 - file ≡ suc (14 - (file + 1))
+    turn = omega arith
+
+    -- a file has none
+    over-next : fault file .number ≡ 0 → overFiles fault file (14 - file) ≡ overFiles fault (file + 1) (14 - (file + 1))
+    unfolding overFiles
+    over-next e = rw (turn, eq-eqb (fault file .number) 0 e)
+
+    -- a file has one
+    over-stop : (fault file .number ≡ 0 → ⊥) → overFiles fault file (14 - file) ≡ fault file
+    unfolding overFiles
+    over-stop e = rw (turn, ne-eqb (fault file .number) 0 e)
+
+-- Where the files were gone through up to one: the first fault of the rest is the batch's, and file 7 has none once it was passed.
+pub record Onward (b : Batch) (file : ℕ) : Type 0 where
+  pub low : 2 ≤ file
+  pub high : file ≤ 14
+  pub fault : overFiles (linkFault b) file (14 - file) ≡ linksFault b
+  pub stops : 7 < file → linkFault b 7 ≡ answered []
+
+-- at the start
+pub onward-start : (b : Batch) → Onward b 2
+unfolding linksFault
+onward-start b = record { low = omega arith; high = omega arith; fault = refl; stops = λ h. absurd (omega arith) }
+
+-- at the end
+pub onward-end : (b : Batch) (file : ℕ) → Onward b file → 14 ≤ file → answered [] ≡ linksFault b
+onward-end b file o h = sym (over-done (linkFault b) file h) ∙ o .fault
+
+-- the fault of a file is found, and it is asked whether it is one
+module _ (b : Batch) (file : ℕ) (o : Onward b file) (h : file < 14) (a : Numbered) (e : a ≡ linkFault b file) (t : Bool) (d : t ≡ eqb (a .number) 0) where
+  pub onward-stop : t ≡ false → a ≡ linksFault b
+  onward-stop f =
+      let z = eqb-false (a .number) 0 (sym d ∙ f) in
+      e ∙ sym (over-stop (linkFault b) file h (λ y. z (ap (λ (n : Numbered). n .number) e ∙ y))) ∙ o .fault
+
+  pub onward-next : t ≡ true → Onward b (file + 1)
+  onward-next f =
+      let z : linkFault b file .number ≡ 0 = ap (λ (n : Numbered). n .number) (sym e) ∙ eqb-true (a .number) 0 (sym d ∙ f) in
+      record {
+        low = omega (arith, o .low);
+        high = omega arith;
+        fault = sym (over-next (linkFault b) file h z) ∙ o .fault;
+        stops = λ l. either (eqb file 7)
+        (λ y. subst (λ (k : ℕ). linkFault b k ≡ answered []) (eqb-true file 7 y) (file-settled b file z))
+        (λ y. let x = eqb-false file 7 y in o .stops (omega arith));
+      }
+
+-- what is known then of a record of this file
+pub onward-known : (b : Batch) (file : ℕ) (order ways last class new : List ℕ) → Onward b file → SoundFiles b → Looks b order ways last → Classes class → Lasts b new
+    → Known b file order ways new class
+onward-known b file order ways last class new o f k t l =
+    record { sound = f; looks = looks-lasts b order ways last new k l; table = t; stops = λ e. stops-met b (o .stops (omega arith)) }
+
+-- Before any search, the place that is remembered for each file is its start.
+zeros : (n i : ℕ) → getD {A = ℕ} (replicate n 0) i 0 ≡ 0
+zeros zero i = refl
+zeros (suc n) zero = refl
+zeros (suc n) (suc i) = zeros n i
+
+pub lasts-start : (b : Batch) → SoundFiles b → Lasts b (replicate 11 0)
+lasts-start b f =
+    record {
+      size = omega arith;
+      place = λ file k. rw (zeros 11 file) (place-start (fieldsOf file) (fileIn b file) (f file (k .0) (omega (arith, k .1)) .legal));
+    }

@@ -293,8 +293,8 @@ module _ (b : Batch) (file : ℕ) (o : Onward b file) (h : file < 14) (a : Numbe
         high = omega arith;
         fault = sym (over-next (linkFault b) file h z) ∙ o .fault;
         stops = λ l. either (eqb file 7)
-        (λ y. subst (λ (k : ℕ). linkFault b k ≡ answered []) (eqb-true file 7 y) (file-settled b file z))
-        (λ y. let x = eqb-false file 7 y in o .stops (omega arith));
+            (λ y. subst (λ (k : ℕ). linkFault b k ≡ answered []) (eqb-true file 7 y) (file-settled b file z))
+            (λ y. let x = eqb-false file 7 y in o .stops (omega arith));
       }
 
 -- what is known then of a record of this file

@@ -72,11 +72,13 @@ fault-at-requires : tie.Need-fault-at-requires Inv-loop μ-loop
 fault-at-requires c κs =
     let w = c .before .before .before .before .before in
     let q = w .before .before .before .before in
-    let x = w .first-amiss in
-    (record {
-      known = known-lasts _ _ _ _ _ _ _ (start q .pre .2) (x .ensures .1);
-      kinded = left-kinded _ (file q) _ _ _ _ _ _ _ (l q .loop .inv .0) (l q .before .fields-of .ensures) (q .before .cut .ensures) (l q .before .before .file-of .ensures) (start q .pre .2 .sound (file q) (start q .pre .0) (start q .pre .1));
-    }, amiss-found _ (file q) _ _ (x .ensures .0) (c .before .before .if2 .taken))
+    let x = w .first-amiss in (
+      record {
+        known = known-lasts _ _ _ _ _ _ _ (start q .pre .2) (x .ensures .1);
+        kinded = left-kinded _ (file q) _ _ _ _ _ _ _ (l q .loop .inv .0) (l q .before .fields-of .ensures) (q .before .cut .ensures) (l q .before .before .file-of .ensures) (start q .pre .2 .sound (file q) (start q .pre .0) (start q .pre .1));
+      },
+      amiss-found _ (file q) _ _ (x .ensures .0) (c .before .before .if2 .taken),
+    )
 
 returns-2 : tie.Need-returns-2 Inv-loop μ-loop
 returns-2 c =

@@ -1,12 +1,11 @@
 -- What is wrong with a field, link by link: whether a search found the record that it links to, and whether its sign is permitted.
-use mathlib.Core.Path.{_≡_, refl, sym, ap, _∙_}
+use mathlib.Core.Path.{_≡_, sym, _∙_}
 use mathlib.Core.Bool.{Bool, true, false}
 use mathlib.Core.List.{List, [], _∷_}
 use Prim.Native.Nat.{ℕ}
 use lib.Dec.{eqb}
-use lib.ListN.{length}
 use borrow.Author.Tests.{eq-eqb, ne-eqb, not-true}
-use Rattle.laws.specs.Tests.{pick, both, oneOf, either}
+use Rattle.laws.specs.Tests.{pick, both}
 use Rattle.file.specs.Format.{Fields}
 use Rattle.field.specs.Names.{field}
 use Rattle.field.specs.Values.{isEmpty, given, value}

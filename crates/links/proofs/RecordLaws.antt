@@ -1,18 +1,17 @@
 -- Laws of a record that is looked at: its texts, the record that a search finds, and what is wrong with a field, link by link.
 use mathlib.Core.Path.{_≡_, refl, sym, ap, _∙_}
-use mathlib.Core.Bool.{Bool, true, false}
+use mathlib.Core.Bool.{true, false}
 use mathlib.Core.List.{List, [], _∷_, _++_}
 use mathlib.Core.Logic.{_⊎_, inl, inr}
 use Prim.Native.Nat.{ℕ, _+_, _-_, _≤_, _<_}
 use native.Mathlib.Omega.{arith}
-use lib.Dec.{eqb, ltb}
+use lib.Dec.{ltb}
 use lib.ListN.{length, getD, drop, length-append}
 use lib.Seq.{getD-append-add}
 use borrow.Author.Tests.{eqb-true, ltb-true, ltb-false}
-use Rattle.laws.specs.Tests.{pick, both, oneOf, either, never}
+use Rattle.laws.specs.Tests.{either, never}
 use Rattle.file.specs.Files.{fieldsOf, fieldCounts}
 use Rattle.file.specs.Format.{Text, Fields, writtenRecord, written}
-use Rattle.file.specs.Reader.{Classes}
 use Rattle.file.specs.Records.{recordsIn}
 use Rattle.field.specs.Kinds as kind
 use Rattle.field.specs.Kinds.{kinds, kindOf, signs, admits}
@@ -20,21 +19,16 @@ use Rattle.field.specs.Names.{field}
 use Rattle.field.specs.Stage.{firstUnkind}
 use Rattle.field.specs.Values.{isEmpty, isByte, among, allDigits, isDigits, value}
 use Rattle.walk.specs.Walk.{LegalFrom, Cuts, partOf}
-use Rattle.walk.specs.declared.Found.{Found}
 use Rattle.walk.specs.declared.Found.the-variants.{At, Nothing}
 use Rattle.walk.proofs.WalkLaws.{cut-size, cut-first, none-left}
 use Rattle.lines.proofs.LineLaws.{size-cons, place-on, place-start, next-at}
-use Rattle.keys.specs.Keys.{numbers, keyOf, same, has, firstWith, none}
+use Rattle.keys.specs.Keys.{keyOf, same, has, firstWith, none}
 use Rattle.keys.specs.KeyFiles.{KeyFile, PlaceIn}
 use Rattle.keys.specs.Ranks.{IsKeyed, recordAt}
-use Rattle.keys.proofs.KeyLaws.{has-found, has-none}
 use Rattle.rules.specs.Texts.{texts, Kinded}
 use Rattle.rules.proofs.KindLaws.{text-at}
-use Rattle.link.specs.Links.{linkOf, target, linkFields, reaches, met}
 use Rattle.link.specs.Numeric.{numeric, codeKind, NumberAt, CodeAt}
-use Rattle.link.specs.Signs.{firstByte, signIn, signOf, isPermitted, sameSign, codeFits, signFits}
-use Rattle.link.specs.Stage.{amiss}
-use Rattle.link.specs.declared.Link.{Link}
+use Rattle.link.specs.Signs.{firstByte, signIn}
 use Rattle.link.proofs.KindOfLinks.{digits-small, number-kind, code-text}
 use Rattle.lookup.specs.Ways.{Lasts}
 use Rattle.thirteen.specs.Batch.{Batch, fileIn, recordsOf}

@@ -2,17 +2,15 @@
 -- sign.
 use mathlib.Core.Path.{_≡_, refl, sym, ap, _∙_}
 use mathlib.Core.Bool.{true, false}
-use mathlib.Core.List.{[], _∷_}
 use native.Mathlib.Omega.{arith}
 use borrow.Author.Needs.{needs}
 use borrow.Author.Tests.{eq-eqb, ne-eqb}
-use lib.ListN.{length}
 use denote.Ref.{now}
 use Rattle.file.specs.Format.{Text, Fields}
 use Rattle.field.specs.Names.{field}
 use Rattle.field.specs.Values.{isEmpty, value}
 use Rattle.thirteen.specs.Batch.{Batch, thirteen, fileIn, recordsOf}
-use Rattle.keys.specs.Keys.{keyFields, keyTable, numbers}
+use Rattle.keys.specs.Keys.{keyFields, keyTable}
 use Rattle.rules.specs.Texts.{texts}
 use Rattle.link.specs.Signs.{signOf}
 use Rattle.links.proofs.RecordLaws.{Numeral, SignHere, code-field, code-part, key-file, kind-file, code-there, record-later}

@@ -1,8 +1,7 @@
 -- `links::record::number_of` meets its contract: the field is of a numeric kind, so its text is digits, few enough.
-use mathlib.Core.Path.{_≡_, sym, ap, _∙_}
+use mathlib.Core.Path.{sym, ap, _∙_}
 use native.Mathlib.Omega.{arith}
 use borrow.Author.Needs.{needs}
-use denote.Ref.{now}
 use Rattle.file.specs.Format.{Text}
 use Rattle.field.specs.Values.{value}
 use Rattle.links.proofs.RecordLaws.{number-text, number-part}

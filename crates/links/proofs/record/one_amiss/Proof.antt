@@ -1,5 +1,4 @@
 -- `links::record::one_amiss` meets its contract: the record that the link asks for is looked for by the number in its field.
-use mathlib.Core.Path.{_≡_}
 use borrow.Author.Needs.{needs}
 use denote.Ref.{now}
 use Rattle.thirteen.specs.Batch.{Batch, thirteen, recordsOf}

@@ -1,5 +1,5 @@
 -- `links::record::seat_amiss` meets its contract: trip 0 links to nothing, and any other is looked for.
-use mathlib.Core.Path.{_≡_, refl, sym, _∙_}
+use mathlib.Core.Path.{refl, sym, _∙_}
 use native.Mathlib.Omega.{arith}
 use borrow.Author.Needs.{needs}
 use denote.Ref.{now}

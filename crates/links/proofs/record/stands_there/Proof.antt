@@ -1,5 +1,5 @@
 -- `links::record::stands_there` meets its contract: where it says yes, the stop of the record there is this one.
-use mathlib.Core.Path.{_≡_, sym, _∙_}
+use mathlib.Core.Path.{sym, _∙_}
 use native.Mathlib.Omega.{arith}
 use borrow.Author.Needs.{needs}
 use borrow.Author.Tests.{eqb-true}

@@ -1,12 +1,10 @@
 -- `links::record::stop_amiss` meets its contract: a stop that the line's stop found last has is met already; any other is looked for.
-use mathlib.Core.Path.{_≡_, refl, sym, _∙_}
+use mathlib.Core.Path.{_≡_, refl, _∙_}
 use mathlib.Core.Bool.{true}
 use mathlib.Core.List.{[], _∷_}
 use native.Mathlib.Omega.{arith}
 use borrow.Author.Needs.{needs}
 use denote.Ref.{now}
-use Rattle.field.specs.Names.{field}
-use Rattle.field.specs.Values.{value}
 use Rattle.thirteen.specs.Batch.{Batch, thirteen, fileIn, recordsOf}
 use Rattle.keys.specs.Keys.{keyFields, keyTable, numbers, has}
 use Rattle.rules.specs.Texts.{texts}

@@ -1,5 +1,5 @@
 -- `links::record::stop_at` meets its contract: the record that is cut is the one at the place, and its fourth field is a number.
-use mathlib.Core.Path.{_≡_, refl, sym, ap, _∙_}
+use mathlib.Core.Path.{sym, ap, _∙_}
 use native.Mathlib.Omega.{arith}
 use denote.Ref.{now}
 use Rattle.file.specs.Files.{fieldsOf, fieldCounts}

@@ -1,5 +1,4 @@
 -- `links::record::two_amiss` meets its contract: the record that the link asks for is looked for by the numbers in its two fields.
-use mathlib.Core.Path.{_≡_}
 use borrow.Author.Needs.{needs}
 use denote.Ref.{now}
 use Rattle.thirteen.specs.Batch.{Batch, thirteen, recordsOf}

@@ -1,7 +1,7 @@
 -- A sound batch's keyed files, 2-10, can be looked into by key: they are legal, and the keys of their records are numbers.
 use mathlib.Core.Path.{_≡_}
 use mathlib.Core.List.{List, [], _∷_}
-use Prim.Native.Nat.{ℕ, suc, _≤_, _<_}
+use Prim.Native.Nat.{ℕ, suc, _<_}
 use native.Mathlib.Omega.{arith}
 use lib.ListN.{length, getD}
 use Rattle.file.specs.Files.{fieldsOf}

@@ -9,16 +9,15 @@ use lib.Dec.{eqb, ltb, leb, leb→le}
 use lib.ListN.{length, getD, drop, replicate, List·getD-eq-default}
 use borrow.Author.Tests.{eqb-true, eqb-false, eq-eqb, ne-eqb, ltb-true, ltb-false}
 use Rattle.laws.specs.Below.{below}
-use Rattle.laws.specs.Tests.{pick, both, either, never}
+use Rattle.laws.specs.Tests.{pick, either, never}
 use Rattle.laws.specs.Numbered.{Numbered, answered, refusedIn}
 use Rattle.file.specs.Files.{fieldCounts, fieldsOf}
 use Rattle.file.specs.Format.{Fields, written}
 use Rattle.file.specs.Records.{recordsIn}
 use Rattle.file.specs.Reader.{Classes}
-use Rattle.field.specs.Stage.{firstUnkind}
 use Rattle.walk.specs.Walk.{LegalFrom, RecordAt, Cuts}
 use Rattle.walk.proofs.WalkLaws.{cut-size, cut-first, none-left}
-use Rattle.rules.specs.Texts.{texts, Kinded}
+use Rattle.rules.specs.Texts.{texts}
 use Rattle.lines.proofs.LineLaws.{cut-next, place-start, size-append, size-one}
 use Rattle.keys.specs.Keys.{keyTable, keyFields, keyOf, numbers, has}
 use Rattle.keys.specs.Ranks.{IsKeyed, recordAt}
@@ -26,14 +25,15 @@ use Rattle.keys.specs.KeyFiles.{PlaceIn}
 use Rattle.keys.proofs.TableLaws.{one-of, key-fields}
 use Rattle.link.specs.Links.{links, zaslinky, linkOf, target, linkFields, reaches, met}
 use Rattle.link.specs.Signs.{signFits}
-use Rattle.link.specs.Stage.{isUsed, amiss, firstAmiss, fieldAmiss, recordFault, faultsFrom, linkFault, linksFault, numberedLinked}
+use Rattle.link.specs.Stage.{isUsed, amiss, firstAmiss, fieldAmiss, recordFault, faultsFrom, linkFault, linksFault}
 use Rattle.link.proofs.FaultLaws.{file-clean, file-settled, first-wrong}
 use Rattle.link.proofs.TableLaws.{record-length}
 use Rattle.find.specs.Find.{Serves}
 use Rattle.lookup.specs.Ways.{Looks, Lasts, Way, howOf, fromOf, toOf, partOf, apart}
-use Rattle.thirteen.specs.Batch.{Batch, fileIn, recordsOf, overFiles}
-use Rattle.links.specs.Sound.{SoundFile, SoundFiles, AllOfKind, StopsMet, Known, Record, UsedAsked, Used}
+use Rattle.thirteen.specs.Batch.{Batch, fileIn, overFiles}
+use Rattle.links.specs.Sound.{SoundFiles, OfKind, StopsMet, Known, Record, UsedAsked, Used}
 use Rattle.links.proofs.SoundLaws.{sound-kinds}
+use Rattle.links.proofs.RecordLaws.{cut-kinded, later}
 
 -- The fields of a record from f on, of n in all.
 module _ (b : Batch) (file : ℕ) (r : Fields) (f n : ℕ) where
@@ -73,19 +73,6 @@ amiss-nine b file r f = go (met b (linkOf file f) f r) (signFits b file (linkOf 
     go true false p q = refl
     go false s p q = absurd (q refl)
 
--- What is known of a record stays known where other places were found last.
-pub looks-lasts : (b : Batch) (order ways last new : List ℕ) → Looks b order ways last → Lasts b new → Looks b order ways new
-looks-lasts b order ways last new k l = record { size = k .size; routes = k .routes; lasts = l }
-
-pub known-lasts : (b : Batch) (file : ℕ) (order ways last class new : List ℕ) → Known b file order ways last class → Lasts b new → Known b file order ways new class
-known-lasts b file order ways last class new k l =
-    record { sound = k .sound; looks = looks-lasts b order ways last new (k .looks) l; table = k .table; stops = k .stops }
-
-pub record-lasts : (b : Batch) (file : ℕ) (s places order ways last class new : List ℕ) → Record b file s places order ways last class → Lasts b new
-    → Record b file s places order ways new class
-record-lasts b file s places order ways last class new r l =
-    record { known = known-lasts b file order ways last class new (r .known) l; kinded = r .kinded }
-
 -- no file has more than thirteen fields in a record
 few : ℕ → Bool
 few k = leb (fieldsOf k) 13
@@ -105,24 +92,28 @@ no-fields file h =
     (λ e. one-of (λ (k : ℕ). keyFields k ≡ []) 11 3 (refl, (refl, (refl, tt))) file (omega arith) (omega (arith, ltb-true file 14 e)))
     (λ e. List·getD-eq-default keyTable [] (ltb-false file 14 e))
 
--- So their records use no earlier one's; in the others, a record does that has an earlier one's key.
+-- So no record of theirs has a key that is used.
 pub no-key : (file : ℕ) (past : List Fields) (r : Fields) → 10 < file → isUsed file past r ≡ false
 unfolding isUsed
 no-key file past r h = rw (no-fields file h)
 
+-- In the others, a record's key is used where an earlier one has it.
 pub key-used : (file : ℕ) (past : List Fields) (r : Fields) → IsKeyed file → isUsed file past r ≡ has file (keyOf file r) past
 unfolding isUsed
 key-used file past r k = rw (ne-eqb (length (keyFields file)) 0 (λ e. omega (arith, key-fields file k .0)))
 
--- What is asked of the place of a record says whether its key is used: of a file with none, of one whose keys are all different, of any other.
+-- Whether the key of the record at a place is used.
 module _ (file : ℕ) (s : List ℕ) (at : ℕ) (order ways : List ℕ) (q : UsedAsked file s at order ways) where
+  -- it has none
   pub used-keyless : 10 < file → Used file s at false
   used-keyless h p = sym (no-key file (p .past) (recordAt file s at) h)
 
   module _ (h : file ≤ 10) where
+    -- the way to its file's records
     pub way-here : Way file s order (howOf ways file) (fromOf ways file) (toOf ways file)
     way-here = q .way (q .low, h)
 
+    -- all keys are different: since they rise, or by an index
     used-apart : apart (howOf ways file) ≡ true → Used file s at false
     used-apart e p = sym (key-used file (p .past) (recordAt file s at) (q .low, h) ∙ way-here .once e at p (q .more))
 
@@ -132,10 +123,11 @@ module _ (file : ℕ) (s : List ℕ) (at : ℕ) (order ways : List ℕ) (q : Use
     pub used-index : howOf ways file ≡ 2 → Used file s at false
     used-index e = used-apart (rw e)
 
-    -- the search may go by the index, if there is one
+    -- else it is looked for, by the index if there is one
     pub serves-part : (part : List ℕ) → part ≡ partOf order (fromOf ways file) (toOf ways file) → Serves file s false part
     serves-part part e = rw e (record { keyed = way-here .serves .keyed; up = λ z. never z; index = way-here .serves .index })
 
+    -- what is found is the answer
     pub used-found : (r : Bool) → ((p : PlaceIn file s at) → r ≡ has file (keyOf file (recordAt file s at)) (p .past)) → Used file s at r
     used-found r e p = e p ∙ sym (key-used file (p .past) (recordAt file s at) (q .low, h))
 
@@ -157,11 +149,13 @@ pub left-end : (b : Batch) (file : ℕ) (s : List ℕ) (at k : ℕ) → Left b f
 unfolding faultsFrom
 left-end b file s at k l h = sym (l .fault) ∙ rw (none-left (fieldsOf file) s at h)
 
--- where bytes are left, a record can be cut, and it is asked whether its key is used
+-- where bytes are left
 module _ (b : Batch) (file : ℕ) (s : List ℕ) (at k : ℕ) (l : Left b file s at k) (h : at < length s) where
+  -- a record can be cut
   pub left-record : (n : ℕ) → n ≡ fieldsOf file → RecordAt n s at
   left-record n e = rw e (record { legal = l .place .legal; more = h; room = fields-few file })
 
+  -- and it can be asked whether its key is used
   pub left-asked : (order ways last class : List ℕ) → 2 ≤ file → s ≡ fileIn b file → Known b file order ways last class → UsedAsked file s at order ways
   left-asked order ways last class low e q =
       record {
@@ -172,34 +166,33 @@ module _ (b : Batch) (file : ℕ) (s : List ℕ) (at k : ℕ) (l : Left b file s
         more = h;
       }
 
--- a record among others that are of their kinds
-kind-among : (file : ℕ) (past : List Fields) (r : Fields) (rest : List Fields) → AllOfKind file (past ++ (r ∷ rest)) → firstUnkind file 1 r ≡ 0
-unfolding AllOfKind
-kind-among file [] r rest a = a .0
-kind-among file (q ∷ past) r rest a = kind-among file past r rest (a .1)
-
 -- a record that was cut, where n is how many fields the file's records have
 module _ (b : Batch) (file : ℕ) (s : List ℕ) (at k n : ℕ) (old places : List ℕ) (next : ℕ) (l : Left b file s at k) (fields : n ≡ fieldsOf file) (d : Cuts n s at old places next) where
+  -- by the file's number
   c : Cuts (fieldsOf file) s at old places next
   c = subst (λ (m : ℕ). Cuts m s at old places next) fields d
 
+  -- the record, and those behind it
   abbrev r : Fields
   r = texts file s places
 
   abbrev rest : List Fields
   rest = recordsIn (fieldsOf file) (drop next s)
 
+  -- with those before it they are all
   whole : recordsIn (fieldsOf file) s ≡ l .place .past ++ (r ∷ rest)
   whole = l .place .whole ∙ ap (λ (x : List Fields). l .place .past ++ x) (c .rest)
 
-  -- its fields are of their kinds
-  pub left-kinded : s ≡ fileIn b file → SoundFile b file → Kinded file s places
-  left-kinded e f =
-      let a : AllOfKind file (recordsIn (fieldsOf file) s) = rw e (sound-kinds b file f) in
-      record { parted = c .parted; kinds = kind-among file (l .place .past) r rest (rw whole at a) }
+  -- what is known of it then: its fields are of their kinds
+  pub left-known : (order ways last class new : List ℕ) → 2 ≤ file → file ≤ 13 → s ≡ fileIn b file → Known b file order ways last class → Lasts b new
+      → Record b file s places order ways new class
+  left-known order ways last class new low high e q m =
+      let a : OfKind file s = rw e (sound-kinds b file (q .sound file low high)) in
+      record { known = later q new m; kinded = cut-kinded file s at a (l .place) (omega (arith, c .far, c .near)) c }
 
-  -- the answer to whether its key is used
+  -- u tells whether its key is used
   module _ (u : Bool) (h : Used file s at u) where
+    -- by an earlier one of this file
     used-here : isUsed file (l .place .past) r ≡ u
     used-here = ap (λ (x : Fields). isUsed file (l .place .past) x) (sym (cut-first (fieldsOf file) s at old places next c)) ∙ sym (h (l .place))
 
@@ -249,6 +242,7 @@ module _ (fault : ℕ → Numbered) (file : ℕ) where
   over-done h = let z : 14 - file ≡ 0 = omega arith in rw z
 
   module _ (h : file < 14) where
+    -- there is one more
     turn : 14 - file ≡ suc (14 - (file + 1))
     turn = omega arith
 
@@ -278,13 +272,15 @@ onward-start b = record { low = omega arith; high = omega arith; fault = refl; s
 pub onward-end : (b : Batch) (file : ℕ) → Onward b file → 14 ≤ file → answered [] ≡ linksFault b
 onward-end b file o h = sym (over-done (linkFault b) file h) ∙ o .fault
 
--- the fault of a file is found, and it is asked whether it is one
+-- the fault of a file is found, and t tells whether it is none
 module _ (b : Batch) (file : ℕ) (o : Onward b file) (h : file < 14) (a : Numbered) (e : a ≡ linkFault b file) (t : Bool) (d : t ≡ eqb (a .number) 0) where
+  -- it is one: it is the batch's
   pub onward-stop : t ≡ false → a ≡ linksFault b
   onward-stop f =
       let z = eqb-false (a .number) 0 (sym d ∙ f) in
       e ∙ sym (over-stop (linkFault b) file h (λ y. z (ap (λ (n : Numbered). n .number) e ∙ y))) ∙ o .fault
 
+  -- it is none: the next file comes
   pub onward-next : t ≡ true → Onward b (file + 1)
   onward-next f =
       let z : linkFault b file .number ≡ 0 = ap (λ (n : Numbered). n .number) (sym e) ∙ eqb-true (a .number) 0 (sym d ∙ f) in
@@ -301,14 +297,15 @@ module _ (b : Batch) (file : ℕ) (o : Onward b file) (h : file < 14) (a : Numbe
 pub onward-known : (b : Batch) (file : ℕ) (order ways last class new : List ℕ) → Onward b file → SoundFiles b → Looks b order ways last → Classes class → Lasts b new
     → Known b file order ways new class
 onward-known b file order ways last class new o f k t l =
-    record { sound = f; looks = looks-lasts b order ways last new k l; table = t; stops = λ e. stops-met b (o .stops (omega arith)) }
+    record { sound = f; looks = record { size = k .size; routes = k .routes; lasts = l }; table = t; stops = λ e. stops-met b (o .stops (omega arith)) }
 
--- Before any search, the place that is remembered for each file is its start.
+-- zeros and nothing else
 zeros : (n i : ℕ) → getD {A = ℕ} (replicate n 0) i 0 ≡ 0
 zeros zero i = refl
 zeros (suc n) zero = refl
 zeros (suc n) (suc i) = zeros n i
 
+-- Before any search, the place that is remembered for each file is its start.
 pub lasts-start : (b : Batch) → SoundFiles b → Lasts b (replicate 11 0)
 lasts-start b f =
     record {

@@ -1,5 +1,5 @@
 -- `links::stage::fault_at` meets its contract: what is wrong with a field is 8, or else it is 9.
-use mathlib.Core.Path.{_≡_, refl, sym, ap, _∙_}
+use mathlib.Core.Path.{sym, ap, _∙_}
 use Prim.Native.Nat.{ℕ}
 use borrow.Author.Needs.{needs}
 use Rattle.laws.specs.Numbered.{refusedIn}

@@ -1,18 +1,14 @@
 -- `links::stage::file_fault` meets its contract. The loop's invariant: the first fault of the records from `at` on, the first of which is
 -- record k, is that of the file.
 use mathlib.Core.Path.{_≡_, refl, sym, _∙_}
-use mathlib.Core.Bool.{true, false}
-use mathlib.Core.List.{List}
-use Prim.Native.Nat.{ℕ, _+_, _-_, _≤_, _<_}
+use Prim.Native.Nat.{ℕ, _-_}
 use native.Mathlib.Omega.{arith}
 use borrow.Author.Needs.{needs}
 use lib.ListN.{length}
-use denote.Ref.{now}
 use Rattle.link.specs.Stage.{numberedLinked}
 use Rattle.lookup.specs.Ways.{Lasts}
-use Rattle.thirteen.specs.Batch.{Batch, thirteen}
-use Rattle.links.specs.Sound.{Record}
-use Rattle.links.proofs.StageLaws.{Left, left-start, left-end, left-record, left-asked, left-kinded, left-used, left-amiss, left-next, amiss-found, known-lasts}
+use Rattle.thirteen.specs.Batch.{thirteen}
+use Rattle.links.proofs.StageLaws.{Left, left-start, left-end, left-record, left-asked, left-known, left-used, left-amiss, left-next, amiss-found}
 use Rattle.links.proofs.stage.file_fault.Statement.{statement}
 use Rattle.links.proofs.stage.file_fault.Tie as tie
 
@@ -63,22 +59,16 @@ first-amiss-requires : tie.Need-first-amiss-requires Inv-loop μ-loop
 first-amiss-requires c κs =
     let q = c .before .before .before in
     let p = start q .pre in
-    record {
-      known = known-lasts _ _ _ _ _ _ _ (p .2) (l q .loop .inv .1);
-      kinded = left-kinded _ (file q) _ _ _ _ _ _ _ (l q .loop .inv .0) (l q .before .fields-of .ensures) (q .before .cut .ensures) (l q .before .before .file-of .ensures) (p .2 .sound (file q) (p .0) (p .1));
-    }
+    left-known _ (file q) _ _ _ _ _ _ _ (l q .loop .inv .0) (l q .before .fields-of .ensures) (q .before .cut .ensures) _ _ _ _ _ (p .0) (p .1) (l q .before .before .file-of .ensures) (p .2) (l q .loop .inv .1)
 
 fault-at-requires : tie.Need-fault-at-requires Inv-loop μ-loop
 fault-at-requires c κs =
     let w = c .before .before .before .before .before in
     let q = w .before .before .before .before in
-    let x = w .first-amiss in (
-      record {
-        known = known-lasts _ _ _ _ _ _ _ (start q .pre .2) (x .ensures .1);
-        kinded = left-kinded _ (file q) _ _ _ _ _ _ _ (l q .loop .inv .0) (l q .before .fields-of .ensures) (q .before .cut .ensures) (l q .before .before .file-of .ensures) (start q .pre .2 .sound (file q) (start q .pre .0) (start q .pre .1));
-      },
-      amiss-found _ (file q) _ _ (x .ensures .0) (c .before .before .if2 .taken),
-    )
+    let p = start q .pre in
+    let x = w .first-amiss .ensures in
+    let k = left-known _ (file q) _ _ _ _ _ _ _ (l q .loop .inv .0) (l q .before .fields-of .ensures) (q .before .cut .ensures) _ _ _ _ _ (p .0) (p .1) (l q .before .before .file-of .ensures) (p .2) (x .1) in
+    (k, amiss-found _ (file q) _ _ (x .0) (c .before .before .if2 .taken))
 
 returns-2 : tie.Need-returns-2 Inv-loop μ-loop
 returns-2 c =

@@ -1,17 +1,16 @@
 -- `links::stage::first_amiss` meets its contract. The loop's invariant: the first field from f on with which something is wrong is the first
 -- of all.
-use mathlib.Core.Path.{_≡_, refl, sym, ap, _∙_}
-use Prim.Native.Nat.{ℕ, _+_, _-_, _≤_, _<_}
+use mathlib.Core.Path.{_≡_, refl, sym, _∙_}
+use Prim.Native.Nat.{_+_, _-_, _≤_}
 use native.Mathlib.Omega.{arith}
 use borrow.Author.Needs.{needs}
 use lib.ListN.{length}
-use denote.Ref.{now}
-use Rattle.file.specs.Files.{fieldsOf}
 use Rattle.rules.specs.Texts.{texts}
 use Rattle.lookup.specs.Ways.{Lasts}
-use Rattle.thirteen.specs.Batch.{Batch, thirteen}
+use Rattle.thirteen.specs.Batch.{thirteen}
 use Rattle.link.specs.Stage.{firstAmiss, fieldAmiss}
-use Rattle.links.proofs.StageLaws.{amiss-start, amiss-turn, amiss-hit, amiss-done, record-lasts, fields-few}
+use Rattle.links.proofs.RecordLaws.{record-later}
+use Rattle.links.proofs.StageLaws.{amiss-start, amiss-turn, amiss-hit, amiss-done, fields-few}
 use Rattle.links.proofs.stage.first_amiss.Statement.{statement}
 use Rattle.links.proofs.stage.first_amiss.Tie as tie
 
@@ -23,27 +22,23 @@ Inv-loop file s places class f1 f2 f3 f4 f5 f6 f7 f8 f9 f10 f11 f12 f13 order wa
 abbrev μ-loop : tie.MeasureT-loop
 μ-loop file s places class f1 f2 f3 f4 f5 f6 f7 f8 f9 f10 f11 f12 f13 order ways last₀ n f₀ last f = n + 1 - f
 
--- src/stage.rt:29:5
 loop-holds : tie.Need-loop-holds Inv-loop μ-loop
 loop-holds c =
     let start = c .before .before .before .before .before .before .before .before .before .before .before .before .before .before .before .before .before .before in
     let a = start .args in
     (omega arith, omega (arith, c .fields-of .ensures, fields-few (a .file)), omega arith, start .pre .known .looks .lasts, refl, amiss-start _ (a .file) _ _ _ (c .fields-of .ensures))
 
--- src/stage.rt:30:12
 amiss-at-requires : tie.Need-amiss-at-requires Inv-loop μ-loop
 amiss-at-requires c κs =
     let start = c .before .before .before .before .before .before .before .before .before .before .before .before .before .before .before .before .before .before .before .before .before in
-    record-lasts _ _ _ _ _ _ _ _ _ (start .pre) (c .before .before .loop .inv .3)
+    record-later (start .pre) _ (c .before .before .loop .inv .3)
 
--- src/stage.rt:31:13
 same-length : tie.Need-same-length Inv-loop μ-loop
 same-length c =
     let x = c .before .before .before .amiss-at in
     let l = c .before .before .before .before .before .before .loop in
     x .kept .1 .1 .1 .1 .1 .1 .1 .1 .1 .1 .1 .1 .1 .1 .1 .1 .1 .1 .1 .1 .0 ∙ l .inv .4
 
--- src/stage.rt:31:13
 returns : tie.Need-returns Inv-loop μ-loop
 returns c =
     let x = c .before .before .before .amiss-at in
@@ -51,7 +46,6 @@ returns c =
     let a = c .before .before .before .before .before .before .before .before .before .before .before .before .before .before .before .before .before .before .before .before .before .before .before .before .before .args in
     (sym (amiss-hit _ (a .file) _ (l .f) _ (c .before .before .before .before .before .loop-test .taken) (λ e. c .if1 .taken (x .ensures .0 ∙ e))) ∙ l .inv .5, x .ensures .1)
 
--- src/stage.rt:29:5
 loop-again : tie.Need-loop-again Inv-loop μ-loop
 loop-again c =
     let x = c .before .before .before .amiss-at in
@@ -59,7 +53,6 @@ loop-again c =
     let a = c .before .before .before .before .before .before .before .before .before .before .before .before .before .before .before .before .before .before .before .before .before .before .before .before .before .args in
     (omega arith, l .inv .1, omega (arith, c .before .before .before .before .before .loop-test .taken), x .ensures .1, x .kept .1 .1 .1 .1 .1 .1 .1 .1 .1 .1 .1 .1 .1 .1 .1 .1 .1 .1 .1 .1 .0 ∙ l .inv .4, sym (amiss-turn _ (a .file) _ (l .f) _ (c .before .before .before .before .before .loop-test .taken) (sym (x .ensures .0) ∙ c .if1 .left)) ∙ l .inv .5)
 
--- src/stage.rt:23:1
 returns-2 : tie.Need-returns-2 Inv-loop μ-loop
 returns-2 c =
     let l = c .before .loop in

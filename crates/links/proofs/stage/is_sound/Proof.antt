@@ -1,5 +1,4 @@
 -- `links::stage::is_sound` meets its contract.
-use mathlib.Core.Path.{refl}
 use borrow.Author.Needs.{needs}
 use Rattle.link.specs.Stage.{numberedLinked}
 use Rattle.links.proofs.stage.is_sound.Statement.{statement}

@@ -1,9 +1,6 @@
 -- `links::stage::is_used` meets its contract: no record of a file without keys, or whose keys are all different, has an earlier one's key.
-use Prim.Native.Nat.{_*_, _≤_, _<_}
-use mathlib.Core.Path.{_≡_, refl, sym, _∙_}
 use native.Mathlib.Omega.{arith}
 use borrow.Author.Needs.{needs}
-use denote.Ref.{now}
 use Rattle.links.proofs.StageLaws.{used-keyless, used-rising, used-index, used-found, way-here, serves-part}
 use Rattle.links.proofs.stage.is_used.Statement.{statement}
 use Rattle.links.proofs.stage.is_used.Tie as tie

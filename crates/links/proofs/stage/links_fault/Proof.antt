@@ -1,6 +1,4 @@
 -- `links::stage::links_fault` meets its contract: the ways are made out, and the files gone through.
-use mathlib.Core.Path.{_≡_, refl, sym, _∙_}
-use Prim.Native.Nat.{ℕ, _≤_, _<_}
 use native.Mathlib.Omega.{arith}
 use borrow.Author.Needs.{needs}
 use Rattle.links.proofs.KeyedLaws.{sound-keys}

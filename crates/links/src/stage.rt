@@ -9,13 +9,15 @@ use lookup::survey;
 use thirteen::file_of;
 use walk::cut;
 ghost use mathlib.Core.Path.{_≡_};
-ghost use Prim.Native.Nat.{_≤_, _<_};
-ghost use lib.ListN.{length};
+ghost use Prim.Native.Nat.{_≤_};
+ghost use lib.Dec.{eqb};
+ghost use Rattle.laws.specs.Numbered.{refusedIn};
+ghost use Rattle.file.specs.Reader.{Classes};
 ghost use Rattle.rules.specs.Texts.{texts};
-ghost use Rattle.link.specs.Stage.{isUsed, fieldAmiss, linkFault, linksFault, numberedLinked};
-ghost use Rattle.lookup.specs.Ways.{Looks, Lasts, WayTo};
-ghost use Rattle.thirteen.specs.Batch.{thirteen, overFiles};
-ghost use Rattle.links.specs.Sound.{SoundFiles, Known, Record, StopsMet, Used};
+ghost use Rattle.link.specs.Stage.{amiss, fieldAmiss, linkFault, linksFault, numberedLinked};
+ghost use Rattle.lookup.specs.Ways.{Looks, Lasts};
+ghost use Rattle.thirteen.specs.Batch.{thirteen};
+ghost use Rattle.links.specs.Sound.{SoundFiles, Known, Record, UsedAsked, Used};
 
 // The first field of a record with which something is wrong; 0 if there is none.
 fn first_amiss<'a>(
@@ -243,6 +245,18 @@ fn file_fault<'a>(
     Linked::Sound
 }
 
+// Whether nothing is wrong.
+fn is_sound(found: Linked) -> bool
+    ensures { λ r. ⌜ r ≡ eqb (numberedLinked found .number) 0 ⌝ }
+{
+    match found {
+        Linked::Sound => true,
+        Linked::Used(_, _) => false,
+        Linked::Dangling(_, _, _) => false,
+        Linked::Misplaced(_, _, _) => false,
+    }
+}
+
 // The first fault of the files, in their order.
 fn files_fault<'a>(
     class: &[u8; 256],
@@ -268,7 +282,7 @@ fn files_fault<'a>(
 {
     let mut file: u64 = 2;
     while file < 14 {
-        match file_fault(
+        let found = file_fault(
             file,
             class,
             f1,
@@ -287,17 +301,9 @@ fn files_fault<'a>(
             order,
             ways,
             last,
-        ) {
-            Linked::Sound => {}
-            Linked::Used(a, k) => {
-                return Linked::Used(a, k);
-            }
-            Linked::Dangling(a, k, f) => {
-                return Linked::Dangling(a, k, f);
-            }
-            Linked::Misplaced(a, k, f) => {
-                return Linked::Misplaced(a, k, f);
-            }
+        );
+        if !is_sound(found) {
+            return found;
         }
         file += 1;
     }

@@ -253,7 +253,8 @@ typedef struct {
  * their order, at one field LINK_TO_NOTHING before SIGN_NOT_PERMITTED.
  *
  * The time is n log n in the batch if the keys of each of the files 2 to 10 strictly rise from record to record. A file whose keys don't is searched
- * from its beginning for each link; slovdrim_links_hinted is for such batches.
+ * from its beginning for each link to it and for each record of its own; slovdrim_links_hinted is for such batches, and with a right list its
+ * time is n log n too.
  */
 slovdrim_links_answer slovdrim_links(const uint8_t *verzejdf, size_t verzejdf_length, const uint8_t *zastavky, size_t zastavky_length,
                                      const uint8_t *pevnykod, size_t pevnykod_length, const uint8_t *dopravci, size_t dopravci_length,

@@ -99,7 +99,7 @@ fn is_used(file: u64, s: &[u8], at: usize, order: &[u32], ways: &[usize]) -> boo
     used_before(file, s, false, index_of(order, ways, file), at)
 }
 
-// The refusal of a record: 7 before all, else that of field f.
+// The refusal of field f of record k, with which something is wrong: 8 or 9.
 fn fault_at<'a>(
     file: u64,
     s: &[u8],

@@ -95,7 +95,8 @@ module _ (b : Batch) (file f : ℕ) (r : Fields) where
   unfolding met
   seat-zero e = rw (eq-eqb (value (field f r)) 0 e)
 
-  pub seat-trip : (value (field f r) ≡ 0 → ⊥) → f ≡ 2 → unmet (has 6 (numbers (1 ∷ f ∷ []) r) (recordsOf b 6)) ≡ unmet (met b Link.TripOrZero f r)
+  pub seat-trip : (value (field f r) ≡ 0 → ⊥) → f ≡ 2
+      → unmet (has 6 (numbers (1 ∷ f ∷ []) r) (recordsOf b 6)) ≡ unmet (met b Link.TripOrZero f r)
   unfolding met reaches target linkFields
   seat-trip e h = rw (ne-eqb (value (field f r)) 0 e, h)
 
@@ -109,7 +110,8 @@ module _ (b : Batch) (file f : ℕ) (r : Fields) where
     unfolding amiss met signFits reaches target linkFields
     code-none z h = rw (← e, z, h)
 
-    pub code-found : isEmpty (field f r) ≡ false → has 3 (numbers (f ∷ []) r) (recordsOf b 3) ≡ true → unfit (codeFits b file f r) ≡ amiss b file r f
+    pub code-found : isEmpty (field f r) ≡ false → has 3 (numbers (f ∷ []) r) (recordsOf b 3) ≡ true
+        → unfit (codeFits b file f r) ≡ amiss b file r f
     unfolding amiss met signFits reaches target linkFields
     code-found z h = rw (← e, z, h)
 

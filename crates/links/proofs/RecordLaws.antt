@@ -125,7 +125,8 @@ pub record SignHere (s : List ℕ) (c p : ℕ) : Type 0 where
   pub within : p < length s
   pub sign : signIn (recordsIn (fieldsOf 3) s) c ≡ firstByte (field 2 (recordAt 3 s p))
 
-pub sign-found : (s : List ℕ) (c p : ℕ) → LegalFrom (fieldsOf 3) s 0 → firstWith 3 (c ∷ []) 0 (recordsIn (fieldsOf 3) s) ≡ At p → SignHere s c p
+pub sign-found : (s : List ℕ) (c p : ℕ) → LegalFrom (fieldsOf 3) s 0 → firstWith 3 (c ∷ []) 0 (recordsIn (fieldsOf 3) s) ≡ At p
+    → SignHere s c p
 sign-found s c p l e =
     let n = fieldsOf 3 in
     let h = hit c 0 (recordsIn n s) p e in
@@ -134,8 +135,8 @@ sign-found s c p l e =
     record {
       place = w .place;
       within = either (ltb p (length s))
-      (λ t. ltb-true p (length s) t)
-      (λ t. absurd (omega (arith, ap length (sym (none-left n s p (ltb-false p (length s) t)) ∙ w .left))));
+          (λ t. ltb-true p (length s) t)
+          (λ t. absurd (omega (arith, ap length (sym (none-left n s p (ltb-false p (length s) t)) ∙ w .left))));
       sign = h .sign ∙ ap (λ (r : Fields). firstByte (field 2 r)) (sym here);
     }
 
@@ -199,8 +200,8 @@ module _ {b : Batch} {file : ℕ} {order ways last class : List ℕ} (k : Known 
   pub code-there : (c p : ℕ) → firstWith 3 (c ∷ []) 0 (recordsOf b 3) ≡ At p → SignHere (fileIn b 3) c p
   code-there c p e = sign-found (fileIn b 3) c p (key-file 3 (omega arith, omega arith) .legal) e
 
-pub record-later : {b : Batch} {file : ℕ} {s places order ways last class : List ℕ} → Record b file s places order ways last class → (l : List ℕ)
-    → Lasts b l → Record b file s places order ways l class
+pub record-later : {b : Batch} {file : ℕ} {s places order ways last class : List ℕ} → Record b file s places order ways last class
+    → (l : List ℕ) → Lasts b l → Record b file s places order ways l class
 record-later r l n = record { known = later (r .known) l n; kinded = r .kinded }
 
 -- the stop of a record of Zaslinky is met where all are
@@ -214,5 +215,6 @@ stop-met b at m p h =
     let some : 0 < length rest = omega (arith, ap length (next-at n s at p h .rest)) in
     let l : i < length (recordsIn n s) = omega (arith, ap length (p .whole), length-append (p .past) rest) in
     let z : i + 0 ≡ i = omega arith in
-    let e : getD (recordsIn n s) i [] ≡ getD rest 0 [] = ap (λ (rs : List Fields). getD rs i []) (p .whole) ∙ rw z at (getD-append-add (p .past) rest 0 []) in
+    let e : getD (recordsIn n s) i [] ≡ getD rest 0 [] =
+    ap (λ (rs : List Fields). getD rs i []) (p .whole) ∙ rw z at (getD-append-add (p .past) rest 0 []) in
     rw e at (m i l)

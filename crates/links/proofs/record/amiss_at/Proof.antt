@@ -121,7 +121,8 @@ returns-5 c =
     let l = call .before .before .before .before in
     let a = begin l .args in
     let k = links l (call .before .before .enum-told5 .given .1) in
-    (call .two-amiss .ensures .0 ∙ trip-amiss (files (begin l)) (a .file) (a .f) (cutTexts (begin l)) k (trip-numeric (a .file) (a .f) (sym k) .0), call .two-amiss .ensures .1)
+    let t = trip-numeric (a .file) (a .f) (sym k) in
+    (call .two-amiss .ensures .0 ∙ trip-amiss (files (begin l)) (a .file) (a .f) (cutTexts (begin l)) k (t .0), call .two-amiss .ensures .1)
 
 returns-6 : tie.Need-returns-6
 returns-6 c =
@@ -137,7 +138,10 @@ returns-7 c =
     let l = call .before .before .before .before in
     let a = begin l .args in
     let k = links l (call .before .before .enum-told7 .given .1) in
-    (call .two-amiss2 .ensures .0 ∙ line-stop-amiss (files (begin l)) (a .file) (a .f) (cutTexts (begin l)) k (line-stop-numeric (a .file) (a .f) (sym k) .1), call .two-amiss2 .ensures .1)
+    let t = line-stop-numeric (a .file) (a .f) (sym k) in (
+      call .two-amiss2 .ensures .0 ∙ line-stop-amiss (files (begin l)) (a .file) (a .f) (cutTexts (begin l)) k (t .1),
+      call .two-amiss2 .ensures .1,
+    )
 
 pub amiss-at-spec : {M : Type 1} → statement M
 amiss-at-spec =

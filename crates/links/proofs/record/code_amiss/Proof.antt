@@ -40,11 +40,13 @@ digits c =
 is-given : (c : tie.Else1) → let start = begin (c .before .before) in isEmpty (field (start .args .f) (cutTexts start)) ≡ false
 is-given c = rw (text-is (c .before)) (ne-eqb _ 0 (c .if1 .left))
 
-number-is : (c : tie.After-value-of) → let start = begin (c .before .before .before) in c .value-of .result ≡ value (field (start .args .f) (cutTexts start))
+number-is : (c : tie.After-value-of) → let start = begin (c .before .before .before) in
+    c .value-of .result ≡ value (field (start .args .f) (cutTexts start))
 number-is c = c .value-of .ensures ∙ ap (λ (t : Text). value t) (sym (text-is (c .before .before)))
 
 -- the record of Pevnykod that was found
-found : (c : tie.After-at) → let look = c .before .before .before .before in SignHere (fileIn (files (begin (look .before .before .before .before .before))) 3) (look .before .before .value-of .result) (c .at .given .0 .0)
+found : (c : tie.After-at) → let v = c .before .before .before .before .before .before in
+    SignHere (fileIn (files (begin (v .before .before .before))) 3) (v .value-of .result) (c .at .given .0 .0)
 found c =
     let look = c .before .before .before .before in
     let start = begin (look .before .before .before .before .before) in
@@ -77,8 +79,12 @@ sign-amiss-requires c κs =
     let at = c .before .before .before in
     let look = at .before .before .before .before in
     let v = look .before .before in
-    let start = begin (v .before .before .before) in
-    (record-later (start .pre .0) _ (look .look-one .ensures .1), start .pre .1, rw (is-given (v .before)), rw (← number-is v) (c .before .sign-at .ensures ∙ sym (found at .sign)))
+    let start = begin (v .before .before .before) in (
+      record-later (start .pre .0) _ (look .look-one .ensures .1),
+      start .pre .1,
+      rw (is-given (v .before)),
+      rw (← number-is v) (c .before .sign-at .ensures ∙ sym (found at .sign)),
+    )
 
 returns-2 : tie.Need-returns-2
 returns-2 c =
@@ -90,7 +96,8 @@ returns-2 c =
     let a = start .args in
     let k = one-key (a .f) (v .value-of .result) (cutTexts start) (number-is v) in
     let h = found-has 3 (recordsOf (files start) 3) k (look .look-one .ensures .0) _ (at .at .given .1) in
-    (sign .sign-amiss .ensures .0 ∙ code-found (files start) (a .file) (a .f) (cutTexts start) (sym (start .pre .2)) (is-given (v .before)) h, sign .sign-amiss .ensures .1)
+    let e = code-found (files start) (a .file) (a .f) (cutTexts start) (sym (start .pre .2)) (is-given (v .before)) h in
+    (sign .sign-amiss .ensures .0 ∙ e, sign .sign-amiss .ensures .1)
 
 returns-3 : tie.Need-returns-3
 returns-3 c =

@@ -42,7 +42,10 @@ returns-2 c =
     let n = two .before .before .before in
     let start = begin (n .before) in
     let a = start .args in
-    (two .two-amiss .ensures .0 ∙ seat-trip (files start) (a .file) (a .f) (texts (a .file) (now (a .s)) (now (a .places))) (λ e. two .before .before .if1 .left (n .number-of .ensures .0 ∙ e)) (start .pre .3), two .two-amiss .ensures .1)
+    let r = texts (a .file) (now (a .s)) (now (a .places)) in
+    let e =
+    seat-trip (files start) (a .file) (a .f) r (λ z. two .before .before .if1 .left (n .number-of .ensures .0 ∙ z)) (start .pre .3) in
+    (two .two-amiss .ensures .0 ∙ e, two .two-amiss .ensures .1)
 
 pub seat-amiss-spec : {M : Type 1} → statement M
 seat-amiss-spec =

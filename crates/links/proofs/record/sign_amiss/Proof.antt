@@ -43,15 +43,19 @@ returns-2 : tie.Need-returns-2
 returns-2 c =
     let start = begin (c .before .before .before) in
     let a = start .args in
-    let h = other-file (a .file) (a .f) (c .if2 .taken) in
-    (sign-alone (files start) (a .file) (a .f) (cutTexts start) (start .pre .2) (start .pre .3) (permitted (c .before)) h, start .pre .0 .known .looks .lasts)
+    let h = other-file (a .file) (a .f) (c .if2 .taken) in (
+      sign-alone (files start) (a .file) (a .f) (cutTexts start) (start .pre .2) (start .pre .3) (permitted (c .before)) h,
+      start .pre .0 .known .looks .lasts,
+    )
 
 returns-3 : tie.Need-returns-3
 returns-3 c =
     let start = begin (c .before .before .before .before) in
     let a = start .args in
-    let h = other-field (a .file) (a .f) (c .before .if2 .left) (c .if3 .taken) in
-    (sign-alone (files start) (a .file) (a .f) (cutTexts start) (start .pre .2) (start .pre .3) (permitted (c .before .before)) h, start .pre .0 .known .looks .lasts)
+    let h = other-field (a .file) (a .f) (c .before .if2 .left) (c .if3 .taken) in (
+      sign-alone (files start) (a .file) (a .f) (cutTexts start) (start .pre .2) (start .pre .3) (permitted (c .before .before)) h,
+      start .pre .0 .known .looks .lasts,
+    )
 
 part-requires : tie.Need-part-requires
 part-requires c κs =
@@ -74,7 +78,10 @@ returns-4 c =
     let a = start .args in
     let h = is-second (a .file) (a .f) (second p .0) (second p .1) in
     let z : isEmpty (field 6 (cutTexts start)) ≡ true = rw (first-text p) (eq-eqb _ 0 (c .if4 .taken)) in
-    (sign-first (files start) (a .file) (a .f) (cutTexts start) (start .pre .2) (start .pre .3) (permitted (p .before .before .before)) h z, start .pre .0 .known .looks .lasts)
+    let q = permitted (p .before .before .before) in (
+      sign-first (files start) (a .file) (a .f) (cutTexts start) (start .pre .2) (start .pre .3) q h z,
+      start .pre .0 .known .looks .lasts,
+    )
 
 value-of-requires : tie.Need-value-of-requires
 value-of-requires c κs =
@@ -92,7 +99,8 @@ sign-of-requires c κs =
     (start .pre .0 .known, rw (v .value-of .ensures) (n .small))
 
 -- the sign of the first code
-first-sign : (c : tie.After-sign-of) → let start = begin (c .before .before .before .before .before .before .before .before .before) in c .sign-of .result ≡ signOf (files start) (value (field 6 (cutTexts start)))
+first-sign : (c : tie.After-sign-of) → let start = begin (c .before .before .before .before .before .before .before .before .before) in
+    c .sign-of .result ≡ signOf (files start) (value (field 6 (cutTexts start)))
 first-sign c =
     let v = c .before .before in
     let p = v .before .before in
@@ -110,7 +118,11 @@ returns-5 c =
     let start = begin (p .before .before .before .before .before) in
     let a = start .args in
     let h = is-second (a .file) (a .f) (second p .0) (second p .1) in
-    (sign-same (files start) (a .file) (a .f) (cutTexts start) (start .pre .2) (start .pre .3) (permitted (p .before .before .before)) h (first-given (s .before .before .before)) (first-sign s) (c .if5 .taken), s .sign-of .ensures .1)
+    let q = permitted (p .before .before .before) in
+    let z = first-given (s .before .before .before) in (
+      sign-same (files start) (a .file) (a .f) (cutTexts start) (start .pre .2) (start .pre .3) q h z (first-sign s) (c .if5 .taken),
+      s .sign-of .ensures .1,
+    )
 
 returns-6 : tie.Need-returns-6
 returns-6 c =
@@ -119,7 +131,11 @@ returns-6 c =
     let start = begin (p .before .before .before .before .before) in
     let a = start .args in
     let h = is-second (a .file) (a .f) (second p .0) (second p .1) in
-    (sign-other (files start) (a .file) (a .f) (cutTexts start) (start .pre .2) (start .pre .3) (permitted (p .before .before .before)) h (first-given (s .before .before .before)) (first-sign s) (c .if5 .left), s .sign-of .ensures .1)
+    let q = permitted (p .before .before .before) in
+    let z = first-given (s .before .before .before) in (
+      sign-other (files start) (a .file) (a .f) (cutTexts start) (start .pre .2) (start .pre .3) q h z (first-sign s) (c .if5 .left),
+      s .sign-of .ensures .1,
+    )
 
 pub sign-amiss-spec : {M : Type 1} → statement M
 sign-amiss-spec =

@@ -2,7 +2,7 @@
 use mathlib.Core.Path.{_≡_, refl, sym, ap, _∙_}
 use mathlib.Core.Bool.{true, false, not}
 use mathlib.Core.List.{List, [], _∷_, _++_, append-assoc}
-use Prim.Native.Nat.{ℕ, zero, suc, _+_, _-_, _≤_, _<_}
+use Prim.Native.Nat.{ℕ, zero, suc, _+_, _-_, _*_, _≤_, _<_}
 use native.Mathlib.Numerals.{add-one}
 use native.Mathlib.Omega.{arith}
 use lib.Dec.{ltb}
@@ -16,7 +16,10 @@ use Rattle.file.specs.Reading.{reading}
 use Rattle.file.specs.Records.{recordsBy, recordsIn}
 use Rattle.file.specs.declared.Outcome.{Outcome}
 use Rattle.file.specs.declared.Outcome.the-variants.{Whole, Unfit, CutShort}
+use Rattle.file.specs.Places.{opened}
 use Rattle.file.proofs.PlaceLaws.{read-count}
+use Rattle.file.proofs.ReadBack.{size-field}
+use Rattle.walk.proofs.StartLaws.{size-record}
 use Rattle.file.proofs.RecordLaws.{legible, written-records}
 use Rattle.walk.specs.Walk.{LegalFrom, RecordAt, Cuts, cutRecord}
 use Rattle.walk.proofs.WalkLaws.{none-left, firstRecord}
@@ -320,3 +323,36 @@ pub start-place : (n : ℕ) (s : List ℕ) (x : ℕ) → LegalFrom n s 0 → 0 <
 start-place n s x h p k e =
     let z = lead-hit s (x - 1) (omega arith) e in
     line-place n s 0 (x - 1) x (place-start n s h) (omega arith) (omega arith) (omega (arith, z)) .place
+
+-- a field takes three bytes or more
+opened-least : (ts : Fields) → length ts * 3 ≤ length (opened ts)
+unfolding opened
+opened-least [] = omega arith
+opened-least (t ∷ ts) = simp length-append (omega (arith, size-field false t, opened-least ts))
+
+-- from a place before the LF on, the same LF is the next
+lead-skip : (s : List ℕ) (at d : ℕ) → d ≤ lead (drop at s) → behind s (at + d) ≡ behind s at
+lead-skip s at zero h = let e : at + 0 ≡ at = omega arith in rw e
+lead-skip s at (suc d) h =
+    either (ltb at (length s))
+    (λ t.
+    let l = ltb-true at (length s) t in
+    let m = lead-miss s at l (λ e. omega (arith, lead-hit s at l e)) in
+    let e : at + suc d ≡ at + 1 + d = omega arith in
+    let i = lead-skip s (at + 1) d (omega arith) in
+    rw e (i ∙ (omega arith)))
+    (λ t. absurd (omega (arith, lead-end s at (ltb-false at (length s) t))))
+
+-- so the first bytes of a record may be passed over
+pub record Skips (n : ℕ) (s : List ℕ) (at : ℕ) : Type 0 where
+  pub within : at + (n * 3 + 1) < length s
+  pub same : behind s (at + (n * 3 + 1)) ≡ behind s at
+
+pub skips : (n : ℕ) (s : List ℕ) (at : ℕ) → Place n s at → at < length s → Skips n s at
+skips n s at p h =
+    let first = firstRecord n s at in
+    let o = opens n s at p h in
+    let some : 1 ≤ length first = omega (arith, p .legal .reads .some, o .shape) in
+    let x = next-at n s at p h in
+    let l : n * 3 + 1 ≤ lead (drop at s) = omega (arith, x .size, size-record first some, opened-least first, o .shape) in
+    record { within = omega (arith, l, x .place .near); same = lead-skip s at (n * 3 + 1) l }

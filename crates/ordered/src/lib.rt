@@ -4,16 +4,28 @@ use keys::Key;
 use keys::equal;
 use keys::key_at;
 use keys::less;
+use file::fields_of;
 use lines::line_after;
+use lines::record_after;
 ghost use mathlib.Core.Path.{_≡_};
 ghost use Prim.Native.Nat.{_+_, _^_, _≤_, _<_};
+ghost use lib.ListN.{length};
 ghost use Rattle.file.specs.Files.{fieldsOf};
+ghost use Rattle.lines.specs.Lines.{behind};
 ghost use Rattle.file.specs.Records.{recordsIn};
 ghost use Rattle.keys.specs.Keys.{none};
 ghost use Rattle.keys.specs.Ranks.{rankOf, rankKey};
 ghost use Rattle.lines.specs.Order.{isRising, firstFrom};
 ghost use Rattle.keys.specs.KeyFiles.{KeyFile, KeysRise, PlaceIn, recordsFrom};
 ghost use Rattle.ordered.specs.Narrowing.{Narrows, Narrowed};
+
+// The place behind the record that starts at `at`.
+fn next_of(file: u64, s: &[u8], at: usize) -> usize
+    requires { ⌜ KeyFile file (now s) × PlaceIn file (now s) at × (at < length (now s)) ⌝ }
+    ensures { λ r. ⌜ r ≡ behind (now (s .entry)) at ⌝ }
+{
+    record_after(s, at, fields_of(file))
+}
 
 // Whether every key is above those before it.
 pub fn rising(file: u64, s: &[u8]) -> bool
@@ -24,14 +36,14 @@ pub fn rising(file: u64, s: &[u8]) -> bool
         return true;
     }
     let mut last = key_at(file, s, 0);
-    let mut at = line_after(s, 0);
+    let mut at = next_of(file, s, 0);
     while at < s.len() {
         let k = key_at(file, s, at);
         if !less(last, k) {
             return false;
         }
         last = k;
-        at = line_after(s, at);
+        at = next_of(file, s, at);
     }
     true
 }
@@ -46,7 +58,7 @@ fn scan(file: u64, s: &[u8], from: usize, x: Key) -> usize
         if !less(key_at(file, s, at), x) {
             return at;
         }
-        at = line_after(s, at);
+        at = next_of(file, s, at);
     }
     at
 }
@@ -176,7 +188,7 @@ pub fn first_from(file: u64, s: &[u8], last: usize, x: Key) -> usize
     if !less(k, x) {
         return bisect(file, s, x);
     }
-    let next = line_after(s, last);
+    let next = next_of(file, s, last);
     if next >= s.len() {
         return next;
     }

@@ -26,7 +26,7 @@ returns-2 c =
 
 returns-4 : tie.Need-returns-4
 returns-4 c =
-    let n = c .before .line-after in
+    let n = c .before .next-of in
     let q = c .before .before .before in
     let k = q .before .before .before .key-at in
     let p = q .before .before .before .before .before .before in
@@ -38,7 +38,7 @@ returns-4 c =
 
 key-at-requires-2 : tie.Need-key-at-requires-2
 key-at-requires-2 c κs =
-    let n = c .before .line-after in
+    let n = c .before .next-of in
     let p = c .before .before .before .before .before .before .before .before .before in
     let a = p .args in
     let w = step (a .file) (now (a .s)) (a .last) (n .result) (p .pre .2) (omega arith) (n .ensures) in
@@ -48,7 +48,7 @@ returns-5 : tie.Need-returns-5
 returns-5 c =
     let j = c .before .before .key-at2 in
     let d = c .before .before .before .before in
-    let n = d .line-after in
+    let n = d .next-of in
     let q = d .before .before in
     let k = q .before .before .before .key-at in
     let p = q .before .before .before .before .before .before in
@@ -71,7 +71,7 @@ first-from-spec =
     (λ c κs. search needs)  -- less-requires
     (λ c κs. search needs)  -- bisect-requires-2
     (λ c. search needs)  -- returns-3
-    (λ c κs. search needs)  -- line-after-requires
+    (λ c κs. search needs)  -- next-of-requires
     returns-4
     key-at-requires-2
     (λ c κs. search needs)  -- less-requires-2

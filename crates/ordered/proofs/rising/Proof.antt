@@ -36,7 +36,7 @@ loop-holds c =
     let p = c .before .before .before .before in
     let a = p .args in
     let k = c .before .key-at in
-    let n = c .line-after in
+    let n = c .next-of in
     passed-first (a .file) (now (a .s)) (k .result) (n .result) (p .pre) (omega arith) (k .ensures) (n .ensures)
 
 key-at-requires-2 : tie.Need-key-at-requires-2 Inv-loop μ-loop
@@ -61,7 +61,7 @@ loop-again c =
     let l = q .loop in
     let a = q .before .before .before .before .before .args in
     let k = c .before .before .before .key-at2 in
-    let n = c .line-after2 in
+    let n = c .next-of2 in
     let h = ltb-true (rankKey (l .last)) (rankKey (k .result)) (sym (c .before .before .less .ensures) ∙ not-false _ (c .before .if2 .left)) in
     passed-next (a .file) (now (a .s)) (l .last) (l .at) (l .inv) (k .result) (n .result) (omega arith) (k .ensures) (n .ensures) h
 
@@ -79,12 +79,12 @@ rising-spec =
     μ-loop
     returns
     key-at-requires
-    (λ c κs. omega arith)  -- line-after-requires
+    (λ c κs. let p = c .before .before .before in (p .pre, start (p .args .file) (now (p .args .s)) (p .pre), omega arith))  -- next-of-requires
     loop-holds
     key-at-requires-2
     (λ c κs. search needs)  -- less-requires
     returns-2
-    (λ c κs. omega arith)  -- line-after-requires-2
+    (λ c κs. let q = c .before .before .before .before in (q .before .before .before .before .before .pre, q .loop .inv .place, omega arith))  -- next-of-requires-2
     (λ c. omega arith)  -- loop-less
     loop-again
     returns-3)

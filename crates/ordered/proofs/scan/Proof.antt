@@ -47,7 +47,7 @@ loop-again c =
     let l = q .loop in
     let a = q .before .before .args in
     let k = c .before .before .before .key-at in
-    let n = c .line-after in
+    let n = c .next-of in
     let h = ltb-true (rankKey (k .result)) (rankKey (a .x)) (sym (c .before .before .less .ensures) ∙ not-false _ (c .before .if1 .left)) in
     sought-next (a .file) (now (a .s)) (rankKey (a .x)) (a .from) (l .at) (l .inv) (k .result) (n .result) (omega arith) (k .ensures) (n .ensures) h
 
@@ -67,7 +67,7 @@ scan-spec =
     key-at-requires
     (λ c κs. search needs)  -- less-requires
     returns
-    (λ c κs. omega arith)  -- line-after-requires
+    (λ c κs. let q = c .before .before .before .before in (q .before .before .pre .0, q .loop .inv .place, omega arith))  -- next-of-requires
     (λ c. omega arith)  -- loop-less
     loop-again
     returns-2)

@@ -1,18 +1,19 @@
 -- Laws of a list that a match reads out: what stands at the numbers that no arm names, in a range that an arm names, and past the end. Each
 -- is one test that is computed over the list.
-use mathlib.Core.Path.{_≡_, refl, sym}
+use mathlib.Core.Path.{_≡_, refl, sym, ap}
 use mathlib.Core.Bool.{Bool, true, false}
 use mathlib.Core.List.{List, [], _∷_}
 use Prim.Native.Nat.{ℕ, zero, suc, _+_, _≤_, _<_}
 use native.Mathlib.Numerals.{add-one}
 use native.Mathlib.Omega.{arith}
-use lib.Dec.{T, eqb, ltb}
+use lib.Dec.{T, eqb, ltb, leb, leb→le}
 use lib.ListN.{length, getD, drop, drop-of-length-le, List·getD-eq-default}
 use lib.Seq.{drop-cons}
 use borrow.Author.Tests.{eq-eqb, ne-eqb, le-ltb, ltb-true, ltb-false}
 use Rattle.laws.specs.Tests.{oneOf, either}
 use Rattle.laws.specs.Below.{all, below}
-use Rattle.link.specs.Links.{links, linkOf}
+use Rattle.file.specs.Files.{fieldCounts, fieldsOf}
+use Rattle.link.specs.Links.{zastavky, linky, spoje, zaslinky, zasspoje, udaje, caskody, altdop, altlinky, mistenky, links, linksIn, linkOf}
 use Rattle.link.specs.Signs.{isIn, permittedSigns, isPermitted}
 use Rattle.link.specs.declared.Link.{Link}
 
@@ -157,3 +158,31 @@ module _ (list : List ℕ) (x i : ℕ) (h : i < length list) where
 pub in-none : (list : List ℕ) (x i : ℕ) → length list ≤ i → isIn x (drop i list) ≡ false
 unfolding isIn
 in-none list x i h = rw (drop-of-length-le list h)
+
+-- how many fields of a file may have links, by the number that it was found to have; none in a file that no arm names
+pub count-in : (n : ℕ) {file : ℕ} → file ≡ n → linksIn n ≡ linksIn file
+count-in n e = rw e
+
+none-size : (l : List Link) → T (isNone l) → 0 ≡ length l
+none-size [] t = refl
+none-size (k ∷ l) t = absurd t
+
+pub no-count : (file : ℕ) → Others (13 ∷ 12 ∷ 11 ∷ 10 ∷ 9 ∷ 8 ∷ 7 ∷ 6 ∷ 5 ∷ 2 ∷ []) file → 0 ≡ linksIn file
+unfolding linksIn links
+no-count file o = none-size (getD links file []) (anywhere isNone links [] (13 ∷ 12 ∷ 11 ∷ 10 ∷ 9 ∷ 8 ∷ 7 ∷ 6 ∷ 5 ∷ 2 ∷ []) tt tt file o)
+
+-- behind them each field is free
+pub free-behind : (file f : ℕ) → linksIn file < f → linkOf file f ≡ Link.Free
+unfolding linksIn linkOf
+free-behind file f h = List·getD-eq-default (Link.Free ∷ getD links file []) Link.Free h
+
+-- no more than a record has fields
+fewLinks : ℕ → Bool
+fewLinks file = leb (linksIn file) (fieldsOf file)
+
+pub links-few : (file : ℕ) → linksIn file ≤ fieldsOf file
+unfolding fewLinks linksIn links zastavky linky spoje zaslinky zasspoje udaje caskody altdop altlinky mistenky fieldsOf fieldCounts
+links-few file =
+    either (ltb file 14)
+    (λ e. leb→le (linksIn file) (fieldsOf file) (below 14 fewLinks tt file (ltb-true file 14 e)))
+    (λ e. let z : getD links file [] ≡ [] = List·getD-eq-default links [] (ltb-false file 14 e) in omega (arith, ap length z))

@@ -4,7 +4,7 @@ use Prim.Native.Nat.{ℕ}
 use mathlib.Core.List.{List, [], _∷_, _++_}
 use mathlib.Core.Bool.{Bool, true}
 use lib.Dec.{eqb}
-use lib.ListN.{getD, replicate}
+use lib.ListN.{getD, length, replicate}
 use Rattle.laws.specs.Tests.{oneOf}
 use Rattle.file.specs.Format.{Fields}
 use Rattle.field.specs.Values.{isEmpty, value}
@@ -47,6 +47,10 @@ mistenky = Link.Line ∷ Link.TripOrZero ∷ []
 -- there is no file 0, and VerzeJDF, Pevnykod and Dopravci have no links
 unfoldable pub links : List (List Link)
 links = [] ∷ [] ∷ zastavky ∷ [] ∷ [] ∷ linky ∷ spoje ∷ zaslinky ∷ zasspoje ∷ udaje ∷ caskody ∷ altdop ∷ altlinky ∷ mistenky ∷ []
+
+-- no field behind so many has a link in this file
+unfoldable pub linksIn : ℕ → ℕ
+linksIn file = length (getD links file [])
 
 -- the link of field f, from 1, of this file
 unfoldable pub linkOf : ℕ → ℕ → Link

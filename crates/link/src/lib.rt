@@ -3,6 +3,7 @@ mod table;
 
 pub use table::is_permitted;
 pub use table::link_of;
+pub use table::links_in;
 
 // What a field links to.
 pub enum Link {

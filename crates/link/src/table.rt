@@ -4,7 +4,7 @@ use super::Link;
 ghost use mathlib.Core.Path.{_≡_};
 ghost use mathlib.Core.List.{_∷_};
 ghost use lib.ListN.{getD};
-ghost use Rattle.link.specs.Links.{zastavky, linky, spoje, zaslinky, zasspoje, udaje, caskody, altdop, altlinky, mistenky, linkOf};
+ghost use Rattle.link.specs.Links.{zastavky, linky, spoje, zaslinky, zasspoje, udaje, caskody, altdop, altlinky, mistenky, linksIn, linkOf};
 ghost use Rattle.link.specs.Signs.{isIn, isPermitted};
 
 fn zastavky_link(f: u64) -> Link
@@ -122,6 +122,25 @@ pub fn link_of(file: u64, f: u64) -> Link
         12 => altlinky_link(f),
         13 => mistenky_link(f),
         _ => Link::Free,
+    }
+}
+
+// inner: the last field of a file that has a link; 0 where none has
+pub fn links_in(file: u64) -> u64
+    ensures { λ r. ⌜ r ≡ linksIn file ⌝ }
+{
+    match file {
+        2 => 12,
+        5 => 3,
+        6 => 12,
+        7 => 7,
+        8 => 7,
+        9 => 1,
+        10 => 2,
+        11 => 9,
+        12 => 1,
+        13 => 2,
+        _ => 0,
     }
 }
 

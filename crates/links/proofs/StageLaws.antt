@@ -23,7 +23,9 @@ use Rattle.keys.specs.Keys.{keyTable, keyFields, keyOf, numbers, has}
 use Rattle.keys.specs.Ranks.{IsKeyed, recordAt}
 use Rattle.keys.specs.KeyFiles.{PlaceIn}
 use Rattle.keys.proofs.TableLaws.{one-of, key-fields}
-use Rattle.link.specs.Links.{links, zaslinky, linkOf, target, linkFields, reaches, met}
+use Rattle.link.proofs.MatchLaws.{free-behind, links-few}
+use Rattle.links.proofs.AmissLaws.{free-amiss}
+use Rattle.link.specs.Links.{linksIn, links, zaslinky, linkOf, target, linkFields, reaches, met}
 use Rattle.link.specs.Signs.{signFits}
 use Rattle.link.specs.Stage.{isUsed, amiss, firstAmiss, fieldAmiss, recordFault, faultsFrom, linkFault, linksFault}
 use Rattle.link.proofs.FaultLaws.{file-clean, file-settled, first-wrong}
@@ -56,12 +58,31 @@ module _ (b : Batch) (file : ℕ) (r : Fields) (f n : ℕ) where
   unfolding firstAmiss
   amiss-done h = let z : n + 1 - f ≡ 0 = omega arith in rw z
 
--- all fields of a record that was cut are left at first
-pub amiss-start : (b : Batch) (file : ℕ) (s places : List ℕ) (n : ℕ) → n ≡ fieldsOf file
+-- nothing is wrong with fields that have no link, so they may be left out
+module _ (b : Batch) (file : ℕ) (r : Fields) where
+  free-zero : (f : ℕ) → linksIn file < f → amiss b file r f ≡ 0
+  free-zero f h = sym (free-amiss b file f r (sym (free-behind file f h)))
+
+  none-amiss : (f more : ℕ) → linksIn file < f → firstAmiss b file r f more ≡ 0
+  unfolding firstAmiss
+  none-amiss f zero h = refl
+  none-amiss f (suc more) h = rw (eq-eqb (amiss b file r f) 0 (free-zero f h)) (none-amiss (f + 1) more (omega arith))
+
+  fewer-amiss : (f count more : ℕ) → linksIn file < f + count → firstAmiss b file r f (count + more) ≡ firstAmiss b file r f count
+  unfolding firstAmiss
+  fewer-amiss f zero more h = let e : 0 + more ≡ more = omega arith in rw e (none-amiss f more (omega arith))
+  fewer-amiss f (suc count) more h =
+      let e : suc count + more ≡ suc (count + more) = omega arith in
+      rw (e, fewer-amiss (f + 1) count more (omega arith))
+
+-- all fields of a record that was cut are left at first; those that have no link behind the last that has one don't count
+pub amiss-start : (b : Batch) (file : ℕ) (s places : List ℕ) (n : ℕ) → n ≡ linksIn file
     → firstAmiss b file (texts file s places) 1 (n + 1 - 1) ≡ fieldAmiss b file (texts file s places)
 amiss-start b file s places n e =
-    let z : n + 1 - 1 ≡ length (texts file s places) = omega (arith, cut-size (fieldsOf file) s places) in
-    rw z
+    let r = texts file s places in
+    let z : n + 1 - 1 ≡ n = omega arith in
+    let l : n + (length r - n) ≡ length r = omega (arith, cut-size (fieldsOf file) s places, links-few file) in
+    rw (z, ← l) (sym (fewer-amiss b file r 1 n (length r - n) (omega arith)))
 
 -- what is wrong with a field is 8 or 9
 pub amiss-nine : (b : Batch) (file : ℕ) (r : Fields) (f : ℕ) → (amiss b file r f ≡ 0 → ⊥) → (amiss b file r f ≡ 8 → ⊥) → amiss b file r f ≡ 9

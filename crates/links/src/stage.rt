@@ -4,6 +4,7 @@ use file::classes;
 use file::fields_of;
 use find::used_before;
 use link::Linked;
+use link::links_in;
 use lookup::index_of;
 use lookup::survey;
 use thirteen::file_of;
@@ -45,7 +46,7 @@ fn first_amiss<'a>(
     requires { ⌜ Record (thirteen (now f1) (now f2) (now f3) (now f4) (now f5) (now f6) (now f7) (now f8) (now f9) (now f10) (now f11) (now f12) (now f13)) file (now s) (now places) (now order) (now ways) (now last) (now class) ⌝ }
     ensures { λ r. ⌜ (r ≡ fieldAmiss (thirteen (now (f1 .entry)) (now (f2 .entry)) (now (f3 .entry)) (now (f4 .entry)) (now (f5 .entry)) (now (f6 .entry)) (now (f7 .entry)) (now (f8 .entry)) (now (f9 .entry)) (now (f10 .entry)) (now (f11 .entry)) (now (f12 .entry)) (now (f13 .entry))) file (texts file (now (s .entry)) (now (places .entry)))) × Lasts (thirteen (now (f1 .entry)) (now (f2 .entry)) (now (f3 .entry)) (now (f4 .entry)) (now (f5 .entry)) (now (f6 .entry)) (now (f7 .entry)) (now (f8 .entry)) (now (f9 .entry)) (now (f10 .entry)) (now (f11 .entry)) (now (f12 .entry)) (now (f13 .entry))) (now (last .exit)) ⌝ }
 {
-    let n = fields_of(file) as u64;
+    let n = links_in(file);
     let mut f: u64 = 1;
     while f <= n {
         if amiss_at(

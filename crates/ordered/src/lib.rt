@@ -1,10 +1,10 @@
 // Files whose keys rise from record to record: one pass tells, and then a record is found by bisection on the file's bytes, with no memory
 // beside them. All of it is inner.
+use file::fields_of;
 use keys::Key;
 use keys::equal;
 use keys::key_at;
 use keys::less;
-use file::fields_of;
 use lines::line_after;
 use lines::record_after;
 ghost use mathlib.Core.Path.{_≡_};

@@ -9,6 +9,7 @@ use Rattle.rules.specs.Texts.{texts}
 use Rattle.lookup.specs.Ways.{Lasts}
 use Rattle.thirteen.specs.Batch.{thirteen}
 use Rattle.link.specs.Stage.{firstAmiss, fieldAmiss}
+use Rattle.link.proofs.MatchLaws.{links-few}
 use Rattle.links.proofs.RecordLaws.{record-later}
 use Rattle.links.proofs.StageLaws.{amiss-start, amiss-turn, amiss-hit, amiss-done, fields-few}
 use Rattle.links.proofs.stage.first_amiss.Statement.{statement}
@@ -26,7 +27,7 @@ loop-holds : tie.Need-loop-holds Inv-loop μ-loop
 loop-holds c =
     let start = c .before .before .before .before .before .before .before .before .before .before .before .before .before .before .before .before .before .before in
     let a = start .args in
-    (omega arith, omega (arith, c .fields-of .ensures, fields-few (a .file)), omega arith, start .pre .known .looks .lasts, refl, amiss-start _ (a .file) _ _ _ (c .fields-of .ensures))
+    (omega arith, omega (arith, c .links-in .ensures, links-few (a .file), fields-few (a .file)), omega arith, start .pre .known .looks .lasts, refl, amiss-start _ (a .file) _ _ _ (c .links-in .ensures))
 
 amiss-at-requires : tie.Need-amiss-at-requires Inv-loop μ-loop
 amiss-at-requires c κs =
@@ -44,7 +45,7 @@ returns c =
     let x = c .before .before .before .amiss-at in
     let l = c .before .before .before .before .before .before .loop in
     let a = c .before .before .before .before .before .before .before .before .before .before .before .before .before .before .before .before .before .before .before .before .before .before .before .before .before .args in
-    let more : l .f ≤ c .before .before .before .before .before .before .before .fields-of .result = omega (arith, c .before .before .before .before .before .loop-test .taken) in
+    let more : l .f ≤ c .before .before .before .before .before .before .before .links-in .result = omega (arith, c .before .before .before .before .before .loop-test .taken) in
     (sym (amiss-hit _ (a .file) _ (l .f) _ more (λ e. c .if1 .taken (x .ensures .0 ∙ e))) ∙ l .inv .5, x .ensures .1)
 
 loop-again : tie.Need-loop-again Inv-loop μ-loop
@@ -52,7 +53,7 @@ loop-again c =
     let x = c .before .before .before .amiss-at in
     let l = c .before .before .before .before .before .before .loop in
     let a = c .before .before .before .before .before .before .before .before .before .before .before .before .before .before .before .before .before .before .before .before .before .before .before .before .before .args in
-    let more : l .f ≤ c .before .before .before .before .before .before .before .fields-of .result = omega (arith, c .before .before .before .before .before .loop-test .taken) in
+    let more : l .f ≤ c .before .before .before .before .before .before .before .links-in .result = omega (arith, c .before .before .before .before .before .loop-test .taken) in
     (omega arith, l .inv .1, omega (arith, more), x .ensures .1, x .kept .1 .1 .1 .1 .1 .1 .1 .1 .1 .1 .1 .1 .1 .1 .1 .1 .1 .1 .1 .1 .0 ∙ l .inv .4, sym (amiss-turn _ (a .file) _ (l .f) _ more (sym (x .ensures .0) ∙ c .if1 .left)) ∙ l .inv .5)
 
 returns-2 : tie.Need-returns-2 Inv-loop μ-loop
@@ -67,7 +68,7 @@ first-amiss-spec =
     (tie.spec
     Inv-loop
     μ-loop
-    (λ c κs. search needs)  -- fields-of-requires
+    (λ c κs. search needs)  -- links-in-requires
     loop-holds
     amiss-at-requires
     same-length

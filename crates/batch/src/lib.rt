@@ -1,0 +1,151 @@
+// The check of a batch in document 01's order, as far as keys, links and signs: refusals 1 to 9.
+use fields::Checked;
+use fields::first_fault;
+use file::Counted;
+use file::Refusal;
+use file::classes;
+use file::fields_of;
+use link::Linked;
+use links::links_fault;
+use reader::records;
+use thirteen::file_of;
+use walk::cut;
+use walk::part;
+ghost use mathlib.Core.Path.{_≡_};
+ghost use Rattle.thirteen.specs.Batch.{thirteen, recordsOf, overFiles};
+ghost use Rattle.field.specs.Stage.{fieldFault};
+ghost use Rattle.batch.specs.Answers.{numberedFault};
+ghost use Rattle.batch.specs.Order.{lengthFault, bytesFault, versionFault, faultOf};
+
+// The first fault of a batch.
+pub enum Fault {
+    // There is none.
+    None,
+    // A file's own refusal.
+    File(Refusal),
+    // Record and field: VerzeJDF isn't one record `1.8`.
+    Version(u64, u64),
+    // File, record and field: not of its kind.
+    Unkind(u64, u64, u64),
+    // File and record: a rule inside the record is broken.
+    Broken(u64, u64),
+    // File and record: its key is used by an earlier record.
+    Used(u64, u64),
+    // File, record and field: a link to nothing.
+    Dangling(u64, u64, u64),
+    // File, record and field: its sign is not permitted here.
+    Misplaced(u64, u64, u64),
+}
+
+// 1: the first file that is too long.
+fn first_long<'a>(f1: &'a [u8], f2: &'a [u8], f3: &'a [u8], f4: &'a [u8], f5: &'a [u8], f6: &'a [u8], f7: &'a [u8], f8: &'a [u8], f9: &'a [u8], f10: &'a [u8], f11: &'a [u8], f12: &'a [u8], f13: &'a [u8]) -> Fault
+    ensures { λ r. ⌜ numberedFault r ≡ overFiles (lengthFault (thirteen (now (f1 .entry)) (now (f2 .entry)) (now (f3 .entry)) (now (f4 .entry)) (now (f5 .entry)) (now (f6 .entry)) (now (f7 .entry)) (now (f8 .entry)) (now (f9 .entry)) (now (f10 .entry)) (now (f11 .entry)) (now (f12 .entry)) (now (f13 .entry)))) 1 13 ⌝ }
+{
+    let mut file: u64 = 1;
+    while file < 14 {
+        let s = file_of(file, f1, f2, f3, f4, f5, f6, f7, f8, f9, f10, f11, f12, f13);
+        if s.len() > 16777215 {
+            return Fault::File(Refusal::TooLong(file));
+        }
+        file += 1;
+    }
+    Fault::None
+}
+
+// 2 and 3: the first file that isn't legal, where none is too long.
+fn first_unread<'a>(f1: &'a [u8], f2: &'a [u8], f3: &'a [u8], f4: &'a [u8], f5: &'a [u8], f6: &'a [u8], f7: &'a [u8], f8: &'a [u8], f9: &'a [u8], f10: &'a [u8], f11: &'a [u8], f12: &'a [u8], f13: &'a [u8]) -> Fault
+    requires { ⌜ overFiles (lengthFault (thirteen (now f1) (now f2) (now f3) (now f4) (now f5) (now f6) (now f7) (now f8) (now f9) (now f10) (now f11) (now f12) (now f13))) 1 13 ≡ answered [] ⌝ }
+    ensures { λ r. ⌜ numberedFault r ≡ overFiles (bytesFault (thirteen (now (f1 .entry)) (now (f2 .entry)) (now (f3 .entry)) (now (f4 .entry)) (now (f5 .entry)) (now (f6 .entry)) (now (f7 .entry)) (now (f8 .entry)) (now (f9 .entry)) (now (f10 .entry)) (now (f11 .entry)) (now (f12 .entry)) (now (f13 .entry)))) 1 13 ⌝ }
+{
+    let mut file: u64 = 1;
+    while file < 14 {
+        match records(file, file_of(file, f1, f2, f3, f4, f5, f6, f7, f8, f9, f10, f11, f12, f13)) {
+            Counted::Records(_) => {}
+            Counted::Refused(why) => {
+                return Fault::File(why);
+            }
+        }
+        file += 1;
+    }
+    Fault::None
+}
+
+// The text `1.8`.
+fn is_version(t: &[u8]) -> bool
+    ensures { λ r. ⌜ r ≡ isVersion (now (t .entry)) ⌝ }
+{
+    if t.len() != 3 {
+        return false;
+    }
+    if t[0] != 49 {
+        return false;
+    }
+    if t[1] != 46 {
+        return false;
+    }
+    t[2] == 56
+}
+
+// 4: VerzeJDF, legal, is one record `1.8`.
+fn version_fault(s: &[u8]) -> Fault
+    requires { ⌜ LegalFrom 1 (now s) 0 ⌝ }
+    ensures { λ r. ⌜ numberedFault r ≡ versionFault (recordsIn 1 (now (s .entry))) ⌝ }
+{
+    if s.len() == 0 {
+        return Fault::Version(0, 0);
+    }
+    let class = classes();
+    let mut places: [usize; 14] = [0; 14];
+    let next = cut(s, 0, 1, &class, &mut places);
+    if next < s.len() {
+        return Fault::Version(0, 0);
+    }
+    if is_version(part(s, &places, 0)) {
+        return Fault::None;
+    }
+    Fault::Version(1, 1)
+}
+
+// 5 and 6: the first fault inside one file.
+fn first_unsound<'a>(f1: &'a [u8], f2: &'a [u8], f3: &'a [u8], f4: &'a [u8], f5: &'a [u8], f6: &'a [u8], f7: &'a [u8], f8: &'a [u8], f9: &'a [u8], f10: &'a [u8], f11: &'a [u8], f12: &'a [u8], f13: &'a [u8]) -> Fault
+    requires { ⌜ LegalFiles (thirteen (now f1) (now f2) (now f3) (now f4) (now f5) (now f6) (now f7) (now f8) (now f9) (now f10) (now f11) (now f12) (now f13)) ⌝ }
+    ensures { λ r. ⌜ numberedFault r ≡ overFiles (λ file. fieldFault file (recordsOf (thirteen (now (f1 .entry)) (now (f2 .entry)) (now (f3 .entry)) (now (f4 .entry)) (now (f5 .entry)) (now (f6 .entry)) (now (f7 .entry)) (now (f8 .entry)) (now (f9 .entry)) (now (f10 .entry)) (now (f11 .entry)) (now (f12 .entry)) (now (f13 .entry))) file)) 2 12 ⌝ }
+{
+    let mut file: u64 = 2;
+    while file < 14 {
+        match first_fault(file, file_of(file, f1, f2, f3, f4, f5, f6, f7, f8, f9, f10, f11, f12, f13), fields_of(file)) {
+            Checked::Sound => {}
+            Checked::Refused(why) => {
+                return Fault::File(why);
+            }
+            Checked::Unkind(a, k, f) => {
+                return Fault::Unkind(a, k, f);
+            }
+            Checked::Broken(a, k) => {
+                return Fault::Broken(a, k);
+            }
+        }
+        file += 1;
+    }
+    Fault::None
+}
+
+// 7, 8 and 9.
+fn first_unlinked<'a>(f1: &'a [u8], f2: &'a [u8], f3: &'a [u8], f4: &'a [u8], f5: &'a [u8], f6: &'a [u8], f7: &'a [u8], f8: &'a [u8], f9: &'a [u8], f10: &'a [u8], f11: &'a [u8], f12: &'a [u8], f13: &'a [u8], order: &[u32]) -> Fault
+    requires { ⌜ SoundFiles (thirteen (now f1) (now f2) (now f3) (now f4) (now f5) (now f6) (now f7) (now f8) (now f9) (now f10) (now f11) (now f12) (now f13)) ⌝ }
+    ensures { λ r. ⌜ numberedFault r ≡ linksFault (thirteen (now (f1 .entry)) (now (f2 .entry)) (now (f3 .entry)) (now (f4 .entry)) (now (f5 .entry)) (now (f6 .entry)) (now (f7 .entry)) (now (f8 .entry)) (now (f9 .entry)) (now (f10 .entry)) (now (f11 .entry)) (now (f12 .entry)) (now (f13 .entry))) ⌝ }
+{
+    match links_fault(f1, f2, f3, f4, f5, f6, f7, f8, f9, f10, f11, f12, f13, order) {
+        Linked::Sound => Fault::None,
+        Linked::Used(file, k) => Fault::Used(file, k),
+        Linked::Dangling(file, k, f) => Fault::Dangling(file, k, f),
+        Linked::Misplaced(file, k, f) => Fault::Misplaced(file, k, f),
+    }
+}
+
+// The first fault of a batch, as far as 9. `order` is a hint and may hold anything: the promise doesn't mention it, and no answer depends on it.
+pub fn check_links<'a>(f1: &'a [u8], f2: &'a [u8], f3: &'a [u8], f4: &'a [u8], f5: &'a [u8], f6: &'a [u8], f7: &'a [u8], f8: &'a [u8], f9: &'a [u8], f10: &'a [u8], f11: &'a [u8], f12: &'a [u8], f13: &'a [u8], order: &[u32]) -> Fault
+    ensures { λ r. ⌜ numberedFault r ≡ faultOf (thirteen (now (f1 .entry)) (now (f2 .entry)) (now (f3 .entry)) (now (f4 .entry)) (now (f5 .entry)) (now (f6 .entry)) (now (f7 .entry)) (now (f8 .entry)) (now (f9 .entry)) (now (f10 .entry)) (now (f11 .entry)) (now (f12 .entry)) (now (f13 .entry))) ⌝ }
+{
+    match first_long(f1, f2, f3, f4, f5, f6, f7, f8, f9, f10, f11, f12, f13) { ... }
+}

@@ -44,8 +44,8 @@ fn first_unkind(file: u64, s: &[u8], places: &[usize; 14], n: usize) -> u64
     0
 }
 
-// The first fault of a legal file whose records have n fields.
-fn first_fault(file: u64, s: &[u8], n: usize) -> Checked
+// inner: the first fault of a legal file whose records have n fields.
+pub fn first_fault(file: u64, s: &[u8], n: usize) -> Checked
     requires { ⌜ Ready file n (now s) ⌝ }
     ensures { λ r. ⌜ numberedChecked r ≡ fieldFault file (recordsIn n (now (s .entry))) ⌝ }
 {

@@ -1,21 +1,25 @@
 // The check of a batch in document 01's order, as far as keys, links and signs: refusals 1 to 9.
 use fields::Checked;
 use fields::first_fault;
-use file::Counted;
+use file::Outcome;
 use file::Refusal;
 use file::classes;
 use file::fields_of;
-use link::Linked;
-use links::links_fault;
-use reader::records;
+use reader::read;
 use thirteen::file_of;
 use walk::cut;
 use walk::part;
 ghost use mathlib.Core.Path.{_≡_};
-ghost use Rattle.thirteen.specs.Batch.{thirteen, recordsOf, overFiles};
+ghost use lib.Dec.{eqb};
+ghost use lib.ListN.{take};
+ghost use Rattle.file.specs.Records.{recordsIn};
 ghost use Rattle.field.specs.Stage.{fieldFault};
+ghost use Rattle.fields.specs.Check.{numberedChecked};
+ghost use Rattle.thirteen.specs.Batch.{thirteen, recordsOf, overFiles};
+ghost use Rattle.walk.specs.Walk.{LegalFrom};
 ghost use Rattle.batch.specs.Answers.{numberedFault};
-ghost use Rattle.batch.specs.Order.{lengthFault, bytesFault, versionFault, faultOf};
+ghost use Rattle.batch.specs.Legal.{LegalFiles};
+ghost use Rattle.batch.specs.Order.{lengthFault, bytesFault, isVersion, outcomeFault, versionFault, stages, firstFault};
 
 // The first fault of a batch.
 pub enum Fault {
@@ -37,6 +41,16 @@ pub enum Fault {
     Misplaced(u64, u64, u64),
 }
 
+// Whether there is none.
+fn is_none(f: Fault) -> bool
+    ensures { λ r. ⌜ r ≡ eqb (numberedFault f .number) 0 ⌝ }
+{
+    match f {
+        Fault::None => true,
+        _ => false,
+    }
+}
+
 // 1: the first file that is too long.
 fn first_long<'a>(f1: &'a [u8], f2: &'a [u8], f3: &'a [u8], f4: &'a [u8], f5: &'a [u8], f6: &'a [u8], f7: &'a [u8], f8: &'a [u8], f9: &'a [u8], f10: &'a [u8], f11: &'a [u8], f12: &'a [u8], f13: &'a [u8]) -> Fault
     ensures { λ r. ⌜ numberedFault r ≡ overFiles (lengthFault (thirteen (now (f1 .entry)) (now (f2 .entry)) (now (f3 .entry)) (now (f4 .entry)) (now (f5 .entry)) (now (f6 .entry)) (now (f7 .entry)) (now (f8 .entry)) (now (f9 .entry)) (now (f10 .entry)) (now (f11 .entry)) (now (f12 .entry)) (now (f13 .entry)))) 1 13 ⌝ }
@@ -52,18 +66,27 @@ fn first_long<'a>(f1: &'a [u8], f2: &'a [u8], f3: &'a [u8], f4: &'a [u8], f5: &'
     Fault::None
 }
 
-// 2 and 3: the first file that isn't legal, where none is too long.
+// What the reading of a file came to, as a fault.
+fn outcome_fault(file: u64, o: Outcome) -> Fault
+    ensures { λ r. ⌜ numberedFault r ≡ outcomeFault file o ⌝ }
+{
+    match o {
+        Outcome::Whole(_) => Fault::None,
+        Outcome::Unfit(at) => Fault::File(Refusal::Unfit(file, at as u64)),
+        Outcome::CutShort(at) => Fault::File(Refusal::CutShort(file, at as u64)),
+    }
+}
+
+// 2 and 3: the first file that isn't legal.
 fn first_unread<'a>(f1: &'a [u8], f2: &'a [u8], f3: &'a [u8], f4: &'a [u8], f5: &'a [u8], f6: &'a [u8], f7: &'a [u8], f8: &'a [u8], f9: &'a [u8], f10: &'a [u8], f11: &'a [u8], f12: &'a [u8], f13: &'a [u8]) -> Fault
-    requires { ⌜ overFiles (lengthFault (thirteen (now f1) (now f2) (now f3) (now f4) (now f5) (now f6) (now f7) (now f8) (now f9) (now f10) (now f11) (now f12) (now f13))) 1 13 ≡ answered [] ⌝ }
     ensures { λ r. ⌜ numberedFault r ≡ overFiles (bytesFault (thirteen (now (f1 .entry)) (now (f2 .entry)) (now (f3 .entry)) (now (f4 .entry)) (now (f5 .entry)) (now (f6 .entry)) (now (f7 .entry)) (now (f8 .entry)) (now (f9 .entry)) (now (f10 .entry)) (now (f11 .entry)) (now (f12 .entry)) (now (f13 .entry)))) 1 13 ⌝ }
 {
     let mut file: u64 = 1;
     while file < 14 {
-        match records(file, file_of(file, f1, f2, f3, f4, f5, f6, f7, f8, f9, f10, f11, f12, f13)) {
-            Counted::Records(_) => {}
-            Counted::Refused(why) => {
-                return Fault::File(why);
-            }
+        let s = file_of(file, f1, f2, f3, f4, f5, f6, f7, f8, f9, f10, f11, f12, f13);
+        let fault = outcome_fault(file, read(s, fields_of(file)));
+        if !is_none(fault) {
+            return fault;
         }
         file += 1;
     }
@@ -77,13 +100,13 @@ fn is_version(t: &[u8]) -> bool
     if t.len() != 3 {
         return false;
     }
-    if t[0] != 49 {
+    if t[0] != b'1' {
         return false;
     }
-    if t[1] != 46 {
+    if t[1] != b'.' {
         return false;
     }
-    t[2] == 56
+    t[2] == b'8'
 }
 
 // 4: VerzeJDF, legal, is one record `1.8`.
@@ -106,46 +129,57 @@ fn version_fault(s: &[u8]) -> Fault
     Fault::Version(1, 1)
 }
 
-// 5 and 6: the first fault inside one file.
+// The first fault inside one file, as a fault of the batch.
+fn checked_fault(c: Checked) -> Fault
+    ensures { λ r. ⌜ numberedFault r ≡ numberedChecked c ⌝ }
+{
+    match c {
+        Checked::Sound => Fault::None,
+        Checked::Refused(why) => Fault::File(why),
+        Checked::Unkind(file, k, f) => Fault::Unkind(file, k, f),
+        Checked::Broken(file, k) => Fault::Broken(file, k),
+    }
+}
+
+// 5 and 6: the first fault inside one of the files 2-13.
 fn first_unsound<'a>(f1: &'a [u8], f2: &'a [u8], f3: &'a [u8], f4: &'a [u8], f5: &'a [u8], f6: &'a [u8], f7: &'a [u8], f8: &'a [u8], f9: &'a [u8], f10: &'a [u8], f11: &'a [u8], f12: &'a [u8], f13: &'a [u8]) -> Fault
     requires { ⌜ LegalFiles (thirteen (now f1) (now f2) (now f3) (now f4) (now f5) (now f6) (now f7) (now f8) (now f9) (now f10) (now f11) (now f12) (now f13)) ⌝ }
     ensures { λ r. ⌜ numberedFault r ≡ overFiles (λ file. fieldFault file (recordsOf (thirteen (now (f1 .entry)) (now (f2 .entry)) (now (f3 .entry)) (now (f4 .entry)) (now (f5 .entry)) (now (f6 .entry)) (now (f7 .entry)) (now (f8 .entry)) (now (f9 .entry)) (now (f10 .entry)) (now (f11 .entry)) (now (f12 .entry)) (now (f13 .entry))) file)) 2 12 ⌝ }
 {
     let mut file: u64 = 2;
     while file < 14 {
-        match first_fault(file, file_of(file, f1, f2, f3, f4, f5, f6, f7, f8, f9, f10, f11, f12, f13), fields_of(file)) {
-            Checked::Sound => {}
-            Checked::Refused(why) => {
-                return Fault::File(why);
-            }
-            Checked::Unkind(a, k, f) => {
-                return Fault::Unkind(a, k, f);
-            }
-            Checked::Broken(a, k) => {
-                return Fault::Broken(a, k);
-            }
+        let s = file_of(file, f1, f2, f3, f4, f5, f6, f7, f8, f9, f10, f11, f12, f13);
+        let fault = checked_fault(first_fault(file, s, fields_of(file)));
+        if !is_none(fault) {
+            return fault;
         }
         file += 1;
     }
     Fault::None
 }
 
-// 7, 8 and 9.
-fn first_unlinked<'a>(f1: &'a [u8], f2: &'a [u8], f3: &'a [u8], f4: &'a [u8], f5: &'a [u8], f6: &'a [u8], f7: &'a [u8], f8: &'a [u8], f9: &'a [u8], f10: &'a [u8], f11: &'a [u8], f12: &'a [u8], f13: &'a [u8], order: &[u32]) -> Fault
-    requires { ⌜ SoundFiles (thirteen (now f1) (now f2) (now f3) (now f4) (now f5) (now f6) (now f7) (now f8) (now f9) (now f10) (now f11) (now f12) (now f13)) ⌝ }
-    ensures { λ r. ⌜ numberedFault r ≡ linksFault (thirteen (now (f1 .entry)) (now (f2 .entry)) (now (f3 .entry)) (now (f4 .entry)) (now (f5 .entry)) (now (f6 .entry)) (now (f7 .entry)) (now (f8 .entry)) (now (f9 .entry)) (now (f10 .entry)) (now (f11 .entry)) (now (f12 .entry)) (now (f13 .entry))) ⌝ }
+// 1, 2 and 3.
+fn check_bytes<'a>(f1: &'a [u8], f2: &'a [u8], f3: &'a [u8], f4: &'a [u8], f5: &'a [u8], f6: &'a [u8], f7: &'a [u8], f8: &'a [u8], f9: &'a [u8], f10: &'a [u8], f11: &'a [u8], f12: &'a [u8], f13: &'a [u8]) -> Fault
+    ensures { λ r. ⌜ numberedFault r ≡ firstFault (take 2 (stages (thirteen (now (f1 .entry)) (now (f2 .entry)) (now (f3 .entry)) (now (f4 .entry)) (now (f5 .entry)) (now (f6 .entry)) (now (f7 .entry)) (now (f8 .entry)) (now (f9 .entry)) (now (f10 .entry)) (now (f11 .entry)) (now (f12 .entry)) (now (f13 .entry))))) ⌝ }
 {
-    match links_fault(f1, f2, f3, f4, f5, f6, f7, f8, f9, f10, f11, f12, f13, order) {
-        Linked::Sound => Fault::None,
-        Linked::Used(file, k) => Fault::Used(file, k),
-        Linked::Dangling(file, k, f) => Fault::Dangling(file, k, f),
-        Linked::Misplaced(file, k, f) => Fault::Misplaced(file, k, f),
+    let fault = first_long(f1, f2, f3, f4, f5, f6, f7, f8, f9, f10, f11, f12, f13);
+    if !is_none(fault) {
+        return fault;
     }
+    first_unread(f1, f2, f3, f4, f5, f6, f7, f8, f9, f10, f11, f12, f13)
 }
 
-// The first fault of a batch, as far as 9. `order` is a hint and may hold anything: the promise doesn't mention it, and no answer depends on it.
-pub fn check_links<'a>(f1: &'a [u8], f2: &'a [u8], f3: &'a [u8], f4: &'a [u8], f5: &'a [u8], f6: &'a [u8], f7: &'a [u8], f8: &'a [u8], f9: &'a [u8], f10: &'a [u8], f11: &'a [u8], f12: &'a [u8], f13: &'a [u8], order: &[u32]) -> Fault
-    ensures { λ r. ⌜ numberedFault r ≡ faultOf (thirteen (now (f1 .entry)) (now (f2 .entry)) (now (f3 .entry)) (now (f4 .entry)) (now (f5 .entry)) (now (f6 .entry)) (now (f7 .entry)) (now (f8 .entry)) (now (f9 .entry)) (now (f10 .entry)) (now (f11 .entry)) (now (f12 .entry)) (now (f13 .entry))) ⌝ }
+// 1 to 6.
+fn check_files<'a>(f1: &'a [u8], f2: &'a [u8], f3: &'a [u8], f4: &'a [u8], f5: &'a [u8], f6: &'a [u8], f7: &'a [u8], f8: &'a [u8], f9: &'a [u8], f10: &'a [u8], f11: &'a [u8], f12: &'a [u8], f13: &'a [u8]) -> Fault
+    ensures { λ r. ⌜ numberedFault r ≡ firstFault (take 4 (stages (thirteen (now (f1 .entry)) (now (f2 .entry)) (now (f3 .entry)) (now (f4 .entry)) (now (f5 .entry)) (now (f6 .entry)) (now (f7 .entry)) (now (f8 .entry)) (now (f9 .entry)) (now (f10 .entry)) (now (f11 .entry)) (now (f12 .entry)) (now (f13 .entry))))) ⌝ }
 {
-    match first_long(f1, f2, f3, f4, f5, f6, f7, f8, f9, f10, f11, f12, f13) { ... }
+    let first = check_bytes(f1, f2, f3, f4, f5, f6, f7, f8, f9, f10, f11, f12, f13);
+    if !is_none(first) {
+        return first;
+    }
+    let second = version_fault(f1);
+    if !is_none(second) {
+        return second;
+    }
+    first_unsound(f1, f2, f3, f4, f5, f6, f7, f8, f9, f10, f11, f12, f13)
 }

@@ -1,3 +1,4 @@
 pub mod Order
 pub mod Legal
 pub mod Answers
+pub mod OneResult

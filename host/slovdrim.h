@@ -1,8 +1,9 @@
 /*
  * slovdrim.h: the C interface of Slovdrim, a proved library for Czech bus timetables in the JDF 1.8 format.
  *
- * This version reads and writes the bytes of one file of a batch, checks its fields, and counts days. Each call answers exactly what its comment
- * says, for every input, or comes back with one numbered refusal; nothing is guessed and nothing is repaired.
+ * This version reads and writes the bytes of one file of a batch, checks its fields, checks the keys, links and signs of a whole batch, and counts
+ * days. Each call answers exactly what its comment says, for every input, or comes back with one numbered refusal; nothing is guessed and nothing
+ * is repaired.
  *
  * For all calls:
  *
@@ -13,8 +14,8 @@
  *  - Any number may be passed for a file, record, field, place, day, month or year. Those that name nothing are refused, never undefined; any byte may
  *    be passed for a sign.
  *  - A pointer is lent for the time of the call: the library keeps no pointer, allocates nothing and frees nothing. `length` bytes (or `count` numbers)
- *    from the pointer on must be readable, and for `buffer` writable. NULL is allowed where the length or count is 0. A pointer to uint64_t must be
- *    aligned for it.
+ *    from the pointer on must be readable, and for `buffer` writable. NULL is allowed where the length or count is 0. A pointer to uint64_t or
+ *    uint32_t must be aligned for it.
  *  - Lent bytes must not change during a call, by another thread or otherwise. Memory lent as const is never written to.
  *    `buffer` must not overlap `text`. Two inputs of a call may overlap.
  *  - The library has no state at all: no globals, no set-up, no locks, no errno. Calls may be made from any number of threads at once, and from
@@ -65,8 +66,12 @@ extern "C" {
 #define SLOVDRIM_TOO_LONG 1         /* the file has more than SLOVDRIM_LONGEST bytes; place: file */
 #define SLOVDRIM_NOT_LEGAL 2        /* no legal file goes on with this byte; place: file, offset of the byte */
 #define SLOVDRIM_ENDS_INSIDE 3      /* the file ends inside a record; place: file, offset = length of the file */
+#define SLOVDRIM_WRONG_VERSION 4    /* VerzeJDF isn't one record 1.8; place: file, and record and field 1 if there is one record */
 #define SLOVDRIM_NOT_OF_ITS_KIND 5  /* a field isn't of its kind; place: file, record, field */
 #define SLOVDRIM_RULE_BROKEN 6      /* a rule inside a record is broken; place: file, record */
+#define SLOVDRIM_KEY_USED 7         /* an earlier record of the file has this record's key; place: file, record */
+#define SLOVDRIM_LINK_TO_NOTHING 8  /* a link that no record of its file meets; place: file, record, field */
+#define SLOVDRIM_SIGN_NOT_PERMITTED 9 /* a code whose sign can't stand in this field; place: file, record, field */
 #define SLOVDRIM_NO_SUCH_DAY 12     /* a date that isn't real or not of 1900-2099, or a day number past SLOVDRIM_LAST_DAY; no place */
 #define SLOVDRIM_NO_SUCH 20         /* no such file, record or field; no place */
 #define SLOVDRIM_TEXT_NOT_PERMITTED 21 /* the text can't stand in a field; no place */
@@ -194,6 +199,87 @@ typedef struct {
 slovdrim_fields_answer slovdrim_fields(uint64_t file, const uint8_t *bytes, size_t length);
 
 /*
+ * Keys, links and signs.
+ *
+ *   file        key           links, each with the field that is reported
+ *    2 Zastavky field 1       codes 7-12
+ *    3 Pevnykod field 1       none
+ *    4 Dopravci field 1       none
+ *    5 Linky    field 1       carrier 3
+ *    6 Spoje    fields 1,2    line 1; codes 3-12
+ *    7 Zaslinky fields 1,2    line 1; stop 4; codes 5-7
+ *    8 Zasspoje fields 1,2,3  fields 1,2 to Spoje (2); 1,3 to Zaslinky (3); stop 4; codes 6-7
+ *    9 Udaje    fields 1,2    line 1
+ *   10 Caskody  fields 1,2,3  fields 1,2 to Spoje (2)
+ *   11 Altdop   none          fields 1,2 to Spoje (2); carrier 3; codes 4-9
+ *   12 Altlinky none          line 1
+ *   13 Mistenky none          line 1; fields 1,2 to Spoje (2) unless the trip is 0
+ *
+ * Stops are in Zastavky, codes in Pevnykod, carriers in Dopravci, lines in Linky; VerzeJDF has no key and no links. Keys and links compare numbers
+ * by value: 01 and 1 are one code number. A link is met by any record of its file. An empty code links to nothing, and that is no fault.
+ *
+ * A code has the sign of the first record of Pevnykod with its number. Signs permitted by place:
+ *
+ *   Zastavky  @ % W w x ~ } v
+ *   Spoje     X + 1 2 3 4 5 6 7 R # @ % I { [ O s
+ *   Zaslinky  ( ) x $  and 0xA7
+ *   Zasspoje  ( ) x  and 0xA7; two codes, if both are given, have the same sign, or else field 7 is refused
+ *   Altdop    X + 1 2 3 4 5 6 7
+ */
+
+typedef struct {
+    uint64_t number;
+    uint64_t file;
+    uint64_t record;
+    uint64_t field;
+    uint64_t offset;
+} slovdrim_links_answer;
+
+/*
+ * The first fault of a batch up to its keys, links and signs. The thirteen files are lent in their fixed order; a missing file is an empty one.
+ *
+ *   SLOVDRIM_ANSWER              no refusal of these nine. What a trip's days and stops must be is not tried.
+ *   SLOVDRIM_TOO_LONG            `file` is set.
+ *   SLOVDRIM_NOT_LEGAL, SLOVDRIM_ENDS_INSIDE  `file` and `offset` are set.
+ *   SLOVDRIM_WRONG_VERSION       `file` is 1; `record` and `field` are 1 if VerzeJDF has one record, else 0.
+ *   SLOVDRIM_NOT_OF_ITS_KIND     `file`, `record` and `field` are set.
+ *   SLOVDRIM_RULE_BROKEN         `file` and `record` are set.
+ *   SLOVDRIM_KEY_USED            `file` and `record` are set: the later of the two records.
+ *   SLOVDRIM_LINK_TO_NOTHING     `file`, `record` and `field` are set.
+ *   SLOVDRIM_SIGN_NOT_PERMITTED  `file`, `record` and `field` are set.
+ *
+ * The first that applies: TOO_LONG over all files; NOT_LEGAL and ENDS_INSIDE over all files; WRONG_VERSION; then files 2 to 13, record by record,
+ * NOT_OF_ITS_KIND field by field and RULE_BROKEN after the fields; then again files 2 to 13, record by record, the key, and after it the fields in
+ * their order, at one field LINK_TO_NOTHING before SIGN_NOT_PERMITTED.
+ *
+ * The time is n log n in the batch if the keys of each of the files 2 to 10 strictly rise from record to record. A file whose keys don't is searched
+ * from its beginning for each link to it and for each record of its own; slovdrim_links_hinted is for such batches, and with a right list its
+ * time is n log n too.
+ */
+slovdrim_links_answer slovdrim_links(const uint8_t *verzejdf, size_t verzejdf_length, const uint8_t *zastavky, size_t zastavky_length,
+                                     const uint8_t *pevnykod, size_t pevnykod_length, const uint8_t *dopravci, size_t dopravci_length,
+                                     const uint8_t *linky, size_t linky_length, const uint8_t *spoje, size_t spoje_length,
+                                     const uint8_t *zaslinky, size_t zaslinky_length, const uint8_t *zasspoje, size_t zasspoje_length,
+                                     const uint8_t *udaje, size_t udaje_length, const uint8_t *caskody, size_t caskody_length,
+                                     const uint8_t *altdop, size_t altdop_length, const uint8_t *altlinky, size_t altlinky_length,
+                                     const uint8_t *mistenky, size_t mistenky_length);
+
+/*
+ * The same answer as slovdrim_links, for every list `order` of `count` numbers, whatever they are: they can make the call faster, and nothing else.
+ *
+ * They do if they are these. For each of the files 2 to 10, in this order, whose keys do not strictly rise from record to record (compared by value,
+ * the first field of the key before the second): the offset in the file at which each of its records begins, all records, in rising order of key and,
+ * where keys are equal, of place. One file's offsets follow the other's; there are none for a file whose keys rise.
+ */
+slovdrim_links_answer slovdrim_links_hinted(const uint8_t *verzejdf, size_t verzejdf_length, const uint8_t *zastavky, size_t zastavky_length,
+                                            const uint8_t *pevnykod, size_t pevnykod_length, const uint8_t *dopravci, size_t dopravci_length,
+                                            const uint8_t *linky, size_t linky_length, const uint8_t *spoje, size_t spoje_length,
+                                            const uint8_t *zaslinky, size_t zaslinky_length, const uint8_t *zasspoje, size_t zasspoje_length,
+                                            const uint8_t *udaje, size_t udaje_length, const uint8_t *caskody, size_t caskody_length,
+                                            const uint8_t *altdop, size_t altdop_length, const uint8_t *altlinky, size_t altlinky_length,
+                                            const uint8_t *mistenky, size_t mistenky_length, const uint32_t *order, size_t count);
+
+/*
  * The version of this interface: SLOVDRIM_VERSION of the header that the library was made with. It never refuses.
  */
 #define SLOVDRIM_VERSION 1
@@ -285,6 +371,7 @@ SLOVDRIM_LAYOUT(sizeof(slovdrim_records_answer) == 48 && offsetof(slovdrim_recor
 SLOVDRIM_LAYOUT(sizeof(slovdrim_stretch_answer) == 56 && offsetof(slovdrim_stretch_answer, length) == 48, "layout of slovdrim_stretch_answer");
 SLOVDRIM_LAYOUT(sizeof(slovdrim_write_answer) == 16 && offsetof(slovdrim_write_answer, place) == 8, "layout of slovdrim_write_answer");
 SLOVDRIM_LAYOUT(sizeof(slovdrim_fields_answer) == 40 && offsetof(slovdrim_fields_answer, offset) == 32, "layout of slovdrim_fields_answer");
+SLOVDRIM_LAYOUT(sizeof(slovdrim_links_answer) == 40 && offsetof(slovdrim_links_answer, offset) == 32, "layout of slovdrim_links_answer");
 SLOVDRIM_LAYOUT(sizeof(slovdrim_day_answer) == 16 && offsetof(slovdrim_day_answer, day) == 8, "layout of slovdrim_day_answer");
 SLOVDRIM_LAYOUT(sizeof(slovdrim_date_answer) == 32 && offsetof(slovdrim_date_answer, year) == 24, "layout of slovdrim_date_answer");
 SLOVDRIM_LAYOUT(sizeof(slovdrim_weekday_answer) == 16 && offsetof(slovdrim_weekday_answer, weekday) == 8, "layout of slovdrim_weekday_answer");

@@ -175,6 +175,8 @@ static void crashed(int sig, siginfo_t *info, void *context)
     for (i = 0; i < now.length && i < 200; i++)
         dprintf(2, " %02x", now.bytes[i]);
     dprintf(2, "%s\n", now.length > 200 ? " .." : "");
+    if (now.call != NULL && strncmp(now.call, "slovdrim_links", 14) == 0)
+        links_under_way();
     _exit(4);
 }
 
@@ -483,7 +485,7 @@ int main(void)
             give_words(&version, 1);
             break;
         default:
-            if (!days_request(letter) && !fields_request(letter))
+            if (!days_request(letter) && !fields_request(letter) && !links_request(letter))
                 give_up("a request that it doesn't know");
         }
     }

@@ -1,4 +1,5 @@
-/* What driver.c, driver_days.c and driver_fields.c share: the pipes, the rooms that lent memory stands in, and what is said when a call touches what it was not lent. */
+/* What driver.c, driver_days.c, driver_fields.c and driver_links.c share: the pipes, the rooms that lent memory stands in, and what is said when a call touches what it
+   was not lent. */
 #ifndef SLOVDRIM_DRIVER_H
 #define SLOVDRIM_DRIVER_H
 
@@ -50,5 +51,11 @@ int days_request(uint8_t letter);
 
 /* One request on the fields of the lent file; 0 if the letter is none of its own. */
 int fields_request(uint8_t letter);
+
+/* One request on the keys, links and signs of a batch; 0 if the letter is none of its own. */
+int links_request(uint8_t letter);
+
+/* Says after a crash in such a call what was lent to it. */
+void links_under_way(void);
 
 #endif

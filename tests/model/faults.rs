@@ -368,7 +368,7 @@ pub fn long_files(link: &mut Link) {
     }
 }
 
-fn sample(folder: &str, file: u64) -> Vec<u8> {
+pub fn sample(folder: &str, file: u64) -> Vec<u8> {
     let path = format!("{}/{}.txt", folder, name_of(file));
     std::fs::read(&path).unwrap_or_else(|e| panic!("{}: {}", path, e))
 }

@@ -86,7 +86,7 @@ fn all_digits(text: &[u8]) -> bool {
     text.iter().all(|b| b.is_ascii_digit())
 }
 
-fn value(digits: &[u8]) -> u64 {
+pub fn value(digits: &[u8]) -> u64 {
     digits.iter().fold(0, |n, d| 10 * n + (d - b'0') as u64)
 }
 

@@ -9,6 +9,8 @@ use std::sync::Arc;
 use std::thread::JoinHandle;
 
 use crate::fields::name_of;
+use crate::hints::PLAIN;
+use crate::links::Bytes;
 use crate::sweep::{Swept, NUMBERS};
 
 /// A call of the library, as it is named in a report.
@@ -30,6 +32,8 @@ pub enum Call {
     Fits { sign: u64, number: u64, holidays: Arc<Vec<u64>> },
     Fields { file: u64, bytes: Arc<Vec<u8>>, aims: Vec<Aim> },
     HugeFields { file: u64, length: u64 },
+    /// `huge`: a file that is so many zero bytes instead. `kind`: of the hint. `ways`: what the batch was made for.
+    Links { batch: Arc<Bytes>, huge: Option<(u64, u64)>, hint: Arc<Vec<u32>>, kind: &'static str, ways: Arc<Vec<String>> },
 }
 
 /// What a question on the fields of a file was made for; the run counts how often each met each number.
@@ -62,6 +66,10 @@ pub struct Report {
     pub weeks: BTreeMap<u64, u64>,
     /// By file, number and aim.
     pub aims: BTreeMap<(u64, u64, Aim), u64>,
+    /// Of whole batches, each counted once: by number, file and field.
+    pub places: BTreeMap<(u64, u64, u64), u64>,
+    /// Of whole batches, each counted once: by what it was made for.
+    pub ways: BTreeMap<String, u64>,
     /// Sweeps whose digests differ, to be looked at more closely.
     pub sweeps: Vec<Swept>,
 }
@@ -80,6 +88,12 @@ impl Report {
         }
         for (key, n) in other.aims {
             *self.aims.entry(key).or_insert(0) += n;
+        }
+        for (key, n) in other.places {
+            *self.places.entry(key).or_insert(0) += n;
+        }
+        for (key, n) in other.ways {
+            *self.ways.entry(key).or_insert(0) += n;
         }
         self.sweeps.extend(other.sweeps);
     }
@@ -124,6 +138,8 @@ impl Call {
             Call::Holiday { .. } => "slovdrim_holiday",
             Call::Fits { .. } => "slovdrim_fits",
             Call::Fields { .. } | Call::HugeFields { .. } => "slovdrim_fields",
+            Call::Links { kind, .. } if *kind == PLAIN => "slovdrim_links",
+            Call::Links { .. } => "slovdrim_links_hinted",
         }
     }
 
@@ -143,6 +159,16 @@ impl Call {
             Call::Date(n) | Call::Weekday(n) | Call::Week(n) => format!("{} {}", name, n),
             Call::Holiday { number, holidays } => format!("{} {} in {:?}", name, number, &holidays[..holidays.len().min(50)]),
             Call::Fits { sign, number, holidays } => format!("{} sign {:02x} day {} in {:?}", name, sign, number, &holidays[..holidays.len().min(50)]),
+            Call::Links { batch, huge, hint, kind, ways } => {
+                let mut s = format!("{}, made for {:?}, hint: {}, {} numbers {:?}", name, ways, kind, hint.len(), &hint[..hint.len().min(200)]);
+                for (file, bytes) in (1..).zip(batch.iter()) {
+                    match huge {
+                        Some((f, length)) if *f == file => write!(s, "\n  file {} {} zero bytes", file, length).unwrap(),
+                        _ => write!(s, "\n  file {} {}", file, hex(bytes)).unwrap(),
+                    }
+                }
+                s
+            }
         }
     }
 
@@ -151,6 +177,7 @@ impl Call {
         let yes = words[1] != 0;
         match (self, words[0]) {
             (Call::Fields { file, .. } | Call::HugeFields { file, .. }, _) if (1..=13).contains(file) => name_of(*file),
+            (Call::Links { kind, .. }, _) => kind,
             (Call::Records { .. }, 0) if words[5] == 0 => "no records",
             (Call::Records { .. }, 0) => "records",
             (Call::Stretch { .. }, 0) if words[6] == 0 => "an empty text",
@@ -235,6 +262,12 @@ impl Checker {
                     *self.report.aims.entry((*file, words[0], *aim)).or_insert(0) += 1;
                 }
             }
+            if let Call::Links { kind: PLAIN, ways, .. } = &a.call {
+                *self.report.places.entry((words[0], words[1], words[3])).or_insert(0) += 1;
+                for way in ways.iter() {
+                    *self.report.ways.entry(way.clone()).or_insert(0) += 1;
+                }
+            }
         }
         Ok(())
     }
@@ -299,6 +332,12 @@ impl Link {
     pub fn bytes(&mut self, bytes: &[u8]) {
         self.word(bytes.len() as u64);
         self.requests.extend(bytes);
+    }
+
+    /// Their count and the numbers, 32 bits each.
+    pub fn numbers(&mut self, numbers: &[u32]) {
+        self.word(numbers.len() as u64);
+        numbers.iter().for_each(|n| self.requests.extend(n.to_le_bytes()));
     }
 
     pub fn expect(&mut self, call: Call, words: &[u64]) {

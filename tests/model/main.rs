@@ -1,11 +1,18 @@
-//! An independent implementation of document 01, "Bytes of a file", "Fields" and "Days", and its comparison with the library.
+//! An independent implementation of document 01, "The batch", "Bytes of a file", "Fields" and "Days", and its comparison with the library.
 //!
-//!     model compare files|days|fields DRIVER ARGUMENTS..   ask the driver everything and compare
-//!     model almanac                                        every day of the model's own calendar, a line each
-//!     model samples FOLDER                                 whether the model accepts each file of a batch, read by itself
+//!     model compare files|days|fields|links DRIVER ARGUMENTS..   ask the driver everything and compare
+//!     model almanac                                              every day of the model's own calendar, a line each
+//!     model samples FOLDER                                       whether the model accepts each file of a batch, read by itself
 //!
 //! It was written from document 01 and the tables of document 000 alone. It needs nothing but Rust's standard library.
 
+mod asker;
+mod batch_faults;
+mod batch_large;
+mod batch_met;
+mod batch_pairs;
+mod batch_questions;
+mod batches;
 mod calendar;
 mod damage;
 mod days;
@@ -14,7 +21,9 @@ mod fields;
 mod files;
 mod format;
 mod generator;
+mod hints;
 mod link;
+mod links;
 mod maker;
 mod rules;
 mod sweep;
@@ -151,6 +160,25 @@ fn compare_fields(command: &[String]) -> Report {
     report
 }
 
+fn compare_links(command: &[String]) -> Report {
+    let mut report = Report::default();
+    step(&mut report, command, "samples", batch_questions::samples);
+    step(&mut report, command, "batches that stand", batch_questions::standing);
+    step(&mut report, command, "missing files", batch_questions::missing_files);
+    step(&mut report, command, "versions", batch_questions::versions);
+    step(&mut report, command, "keys", batch_questions::keys);
+    step(&mut report, command, "links", batch_questions::links);
+    step(&mut report, command, "codes", batch_questions::codes);
+    step(&mut report, command, "signs", batch_questions::signs);
+    step(&mut report, command, "a code twice", batch_questions::codes_twice);
+    step(&mut report, command, "seat tickets", batch_questions::seats);
+    step(&mut report, command, "digits as they fall", batch_questions::as_they_fall);
+    step(&mut report, command, "two faults", batch_pairs::two_faults);
+    step(&mut report, command, "large files", batch_large::large_files);
+    step(&mut report, command, "the longest file and list", batch_large::longest);
+    report
+}
+
 /// Prints how often each answer was met; one that never was is a fault of the run, unless differences have kept it from being met.
 fn told(report: &mut Report, met: &'static [(&'static str, u64, &'static str)], weeks: bool) {
     for key in met {
@@ -201,6 +229,11 @@ fn main() {
             faults::told(&mut report);
             report
         }
+        ["compare", "links", _, ..] => {
+            let mut report = compare_links(&arguments[2..]);
+            batch_met::told(&mut report);
+            report
+        }
         ["samples", folder] => {
             if !faults::samples_stand(folder) {
                 std::process::exit(1);
@@ -209,7 +242,7 @@ fn main() {
             return;
         }
         _ => {
-            eprintln!("model compare files|days|fields DRIVER ARGUMENTS.. | model almanac | model samples FOLDER");
+            eprintln!("model compare files|days|fields|links DRIVER ARGUMENTS.. | model almanac | model samples FOLDER");
             std::process::exit(2);
         }
     };

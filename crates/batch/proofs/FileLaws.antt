@@ -1,5 +1,5 @@
 -- What the code asks a file says of its fault: its length, its reading, its one record, its fields; and which files are legal then.
-use mathlib.Core.Path.{_≡_, refl, sym, ap, subst, _∙_}
+use mathlib.Core.Path.{_≡_, refl, _∙_}
 use mathlib.Core.Bool.{Bool, true, false}
 use mathlib.Core.List.{List, [], _∷_}
 use Prim.Native.Nat.{ℕ, _+_, _-_, _≤_, _<_}
@@ -8,7 +8,7 @@ use lib.Dec.{eqb, leb}
 use lib.ListN.{length, getD}
 use borrow.Author.Tests.{le-leb, lt-leb}
 use Rattle.laws.specs.Tests.{both, both-true, either}
-use Rattle.laws.specs.Numbered.{Numbered, answered, refusedAt, refusedIn}
+use Rattle.laws.specs.Numbered.{answered, refusedAt, refusedIn}
 use Rattle.file.specs.Files.{isFile, fieldsOf, longest}
 use Rattle.file.specs.Format.{Text, Fields}
 use Rattle.file.specs.Reading.{reading}
@@ -17,11 +17,13 @@ use Rattle.file.specs.declared.Outcome.{Outcome}
 use Rattle.file.specs.declared.Outcome.the-variants.{Whole, Unfit, CutShort}
 use Rattle.file.proofs.AnswerLaws.{file-fields}
 use Rattle.field.specs.Names.{field}
-use Rattle.field.specs.Stage.{fieldFault}
+use Rattle.field.specs.Rules.{meets}
+use Rattle.field.specs.Stage.{firstUnkind, recordFault, faultsFrom, fieldFault}
 use Rattle.fields.specs.Check.{Ready, numberedChecked}
 use Rattle.fields.specs.declared.Checked.{Checked}
 use Rattle.fields.proofs.StageLaws.{fields-few}
 use Rattle.keys.specs.Keys.{same}
+use Rattle.links.specs.Sound.{SoundFiles}
 use Rattle.thirteen.specs.Batch.{Batch, fileIn, recordsOf, overFiles}
 use Rattle.thirteen.proofs.OverLaws.{over-each}
 use Rattle.walk.specs.Walk.{LegalFrom}
@@ -126,3 +128,24 @@ three-bytes (a ∷ []) h = absurd (omega arith)
 three-bytes (a ∷ b ∷ []) h = absurd (omega arith)
 three-bytes (a ∷ b ∷ c ∷ []) h = rw (both-yes (eqb c 56))
 three-bytes (a ∷ b ∷ c ∷ d ∷ t) h = absurd (omega arith)
+
+-- no fault of a file's records but `answered []` has number 0
+faults-settled : (file k : ℕ) (rs : List Fields) → faultsFrom file k rs .number ≡ 0 → faultsFrom file k rs ≡ answered []
+unfolding faultsFrom recordFault
+faults-settled file k [] e = refl
+faults-settled file k (r ∷ rs) e =
+    either (eqb (firstUnkind file 1 r) 0)
+    (λ p.
+    either (meets file r)
+    (λ q. rw (p, q) (faults-settled file (k + 1) rs (rw (p, q) at e)))
+    (λ q. let z = rw (p, q) at e in absurd (omega arith)))
+    (λ p. let z = rw p at e in absurd (omega arith))
+
+-- legal files in whose fields and records nothing is found are sound
+pub sound-files : (b : Batch) → LegalFiles b → overFiles (λ file. fieldFault file (recordsOf b file)) 2 12 .number ≡ 0 → SoundFiles b
+sound-files b legal e file h l =
+    let z : 2 + (file - 2) ≡ file = omega arith in
+    record {
+      legal = legal file (omega arith) l;
+      fields = faults-settled file 1 (recordsOf b file) (rw z at (over-each (λ file. fieldFault file (recordsOf b file)) 2 12 e (file - 2) (omega arith)));
+    }

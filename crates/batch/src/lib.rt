@@ -5,6 +5,8 @@ use file::Outcome;
 use file::Refusal;
 use file::classes;
 use file::fields_of;
+use link::Linked;
+use links::links_fault;
 use reader::read;
 use thirteen::file_of;
 use walk::cut;
@@ -15,11 +17,15 @@ ghost use lib.ListN.{take};
 ghost use Rattle.file.specs.Records.{recordsIn};
 ghost use Rattle.field.specs.Stage.{fieldFault};
 ghost use Rattle.fields.specs.Check.{numberedChecked};
+ghost use Rattle.link.specs.Stage.{numberedLinked};
 ghost use Rattle.thirteen.specs.Batch.{thirteen, recordsOf, overFiles};
 ghost use Rattle.walk.specs.Walk.{LegalFrom};
 ghost use Rattle.batch.specs.Answers.{numberedFault};
 ghost use Rattle.batch.specs.Legal.{LegalFiles};
-ghost use Rattle.batch.specs.Order.{lengthFault, bytesFault, isVersion, outcomeFault, versionFault, stages, firstFault};
+ghost use Rattle.batch.specs.Order.{lengthFault, bytesFault, isVersion, outcomeFault, versionFault, stages, firstFault, faultOf};
+
+// The greatest length of a file.
+const LONGEST: usize = 16_777_215;
 
 // The first fault of a batch.
 pub enum Fault {
@@ -52,13 +58,27 @@ fn is_none(f: Fault) -> bool
 }
 
 // 1: the first file that is too long.
-fn first_long<'a>(f1: &'a [u8], f2: &'a [u8], f3: &'a [u8], f4: &'a [u8], f5: &'a [u8], f6: &'a [u8], f7: &'a [u8], f8: &'a [u8], f9: &'a [u8], f10: &'a [u8], f11: &'a [u8], f12: &'a [u8], f13: &'a [u8]) -> Fault
+fn first_long<'a>(
+    f1: &'a [u8],
+    f2: &'a [u8],
+    f3: &'a [u8],
+    f4: &'a [u8],
+    f5: &'a [u8],
+    f6: &'a [u8],
+    f7: &'a [u8],
+    f8: &'a [u8],
+    f9: &'a [u8],
+    f10: &'a [u8],
+    f11: &'a [u8],
+    f12: &'a [u8],
+    f13: &'a [u8],
+) -> Fault
     ensures { λ r. ⌜ numberedFault r ≡ overFiles (lengthFault (thirteen (now (f1 .entry)) (now (f2 .entry)) (now (f3 .entry)) (now (f4 .entry)) (now (f5 .entry)) (now (f6 .entry)) (now (f7 .entry)) (now (f8 .entry)) (now (f9 .entry)) (now (f10 .entry)) (now (f11 .entry)) (now (f12 .entry)) (now (f13 .entry)))) 1 13 ⌝ }
 {
     let mut file: u64 = 1;
     while file < 14 {
         let s = file_of(file, f1, f2, f3, f4, f5, f6, f7, f8, f9, f10, f11, f12, f13);
-        if s.len() > 16777215 {
+        if s.len() > LONGEST {
             return Fault::File(Refusal::TooLong(file));
         }
         file += 1;
@@ -78,7 +98,21 @@ fn outcome_fault(file: u64, o: Outcome) -> Fault
 }
 
 // 2 and 3: the first file that isn't legal.
-fn first_unread<'a>(f1: &'a [u8], f2: &'a [u8], f3: &'a [u8], f4: &'a [u8], f5: &'a [u8], f6: &'a [u8], f7: &'a [u8], f8: &'a [u8], f9: &'a [u8], f10: &'a [u8], f11: &'a [u8], f12: &'a [u8], f13: &'a [u8]) -> Fault
+fn first_unread<'a>(
+    f1: &'a [u8],
+    f2: &'a [u8],
+    f3: &'a [u8],
+    f4: &'a [u8],
+    f5: &'a [u8],
+    f6: &'a [u8],
+    f7: &'a [u8],
+    f8: &'a [u8],
+    f9: &'a [u8],
+    f10: &'a [u8],
+    f11: &'a [u8],
+    f12: &'a [u8],
+    f13: &'a [u8],
+) -> Fault
     ensures { λ r. ⌜ numberedFault r ≡ overFiles (bytesFault (thirteen (now (f1 .entry)) (now (f2 .entry)) (now (f3 .entry)) (now (f4 .entry)) (now (f5 .entry)) (now (f6 .entry)) (now (f7 .entry)) (now (f8 .entry)) (now (f9 .entry)) (now (f10 .entry)) (now (f11 .entry)) (now (f12 .entry)) (now (f13 .entry)))) 1 13 ⌝ }
 {
     let mut file: u64 = 1;
@@ -142,7 +176,21 @@ fn checked_fault(c: Checked) -> Fault
 }
 
 // 5 and 6: the first fault inside one of the files 2-13.
-fn first_unsound<'a>(f1: &'a [u8], f2: &'a [u8], f3: &'a [u8], f4: &'a [u8], f5: &'a [u8], f6: &'a [u8], f7: &'a [u8], f8: &'a [u8], f9: &'a [u8], f10: &'a [u8], f11: &'a [u8], f12: &'a [u8], f13: &'a [u8]) -> Fault
+fn first_unsound<'a>(
+    f1: &'a [u8],
+    f2: &'a [u8],
+    f3: &'a [u8],
+    f4: &'a [u8],
+    f5: &'a [u8],
+    f6: &'a [u8],
+    f7: &'a [u8],
+    f8: &'a [u8],
+    f9: &'a [u8],
+    f10: &'a [u8],
+    f11: &'a [u8],
+    f12: &'a [u8],
+    f13: &'a [u8],
+) -> Fault
     requires { ⌜ LegalFiles (thirteen (now f1) (now f2) (now f3) (now f4) (now f5) (now f6) (now f7) (now f8) (now f9) (now f10) (now f11) (now f12) (now f13)) ⌝ }
     ensures { λ r. ⌜ numberedFault r ≡ overFiles (λ file. fieldFault file (recordsOf (thirteen (now (f1 .entry)) (now (f2 .entry)) (now (f3 .entry)) (now (f4 .entry)) (now (f5 .entry)) (now (f6 .entry)) (now (f7 .entry)) (now (f8 .entry)) (now (f9 .entry)) (now (f10 .entry)) (now (f11 .entry)) (now (f12 .entry)) (now (f13 .entry))) file)) 2 12 ⌝ }
 {
@@ -159,7 +207,21 @@ fn first_unsound<'a>(f1: &'a [u8], f2: &'a [u8], f3: &'a [u8], f4: &'a [u8], f5:
 }
 
 // 1, 2 and 3.
-fn check_bytes<'a>(f1: &'a [u8], f2: &'a [u8], f3: &'a [u8], f4: &'a [u8], f5: &'a [u8], f6: &'a [u8], f7: &'a [u8], f8: &'a [u8], f9: &'a [u8], f10: &'a [u8], f11: &'a [u8], f12: &'a [u8], f13: &'a [u8]) -> Fault
+fn check_bytes<'a>(
+    f1: &'a [u8],
+    f2: &'a [u8],
+    f3: &'a [u8],
+    f4: &'a [u8],
+    f5: &'a [u8],
+    f6: &'a [u8],
+    f7: &'a [u8],
+    f8: &'a [u8],
+    f9: &'a [u8],
+    f10: &'a [u8],
+    f11: &'a [u8],
+    f12: &'a [u8],
+    f13: &'a [u8],
+) -> Fault
     ensures { λ r. ⌜ numberedFault r ≡ firstFault (take 2 (stages (thirteen (now (f1 .entry)) (now (f2 .entry)) (now (f3 .entry)) (now (f4 .entry)) (now (f5 .entry)) (now (f6 .entry)) (now (f7 .entry)) (now (f8 .entry)) (now (f9 .entry)) (now (f10 .entry)) (now (f11 .entry)) (now (f12 .entry)) (now (f13 .entry))))) ⌝ }
 {
     let fault = first_long(f1, f2, f3, f4, f5, f6, f7, f8, f9, f10, f11, f12, f13);
@@ -170,7 +232,21 @@ fn check_bytes<'a>(f1: &'a [u8], f2: &'a [u8], f3: &'a [u8], f4: &'a [u8], f5: &
 }
 
 // 1 to 6.
-fn check_files<'a>(f1: &'a [u8], f2: &'a [u8], f3: &'a [u8], f4: &'a [u8], f5: &'a [u8], f6: &'a [u8], f7: &'a [u8], f8: &'a [u8], f9: &'a [u8], f10: &'a [u8], f11: &'a [u8], f12: &'a [u8], f13: &'a [u8]) -> Fault
+fn check_files<'a>(
+    f1: &'a [u8],
+    f2: &'a [u8],
+    f3: &'a [u8],
+    f4: &'a [u8],
+    f5: &'a [u8],
+    f6: &'a [u8],
+    f7: &'a [u8],
+    f8: &'a [u8],
+    f9: &'a [u8],
+    f10: &'a [u8],
+    f11: &'a [u8],
+    f12: &'a [u8],
+    f13: &'a [u8],
+) -> Fault
     ensures { λ r. ⌜ numberedFault r ≡ firstFault (take 4 (stages (thirteen (now (f1 .entry)) (now (f2 .entry)) (now (f3 .entry)) (now (f4 .entry)) (now (f5 .entry)) (now (f6 .entry)) (now (f7 .entry)) (now (f8 .entry)) (now (f9 .entry)) (now (f10 .entry)) (now (f11 .entry)) (now (f12 .entry)) (now (f13 .entry))))) ⌝ }
 {
     let first = check_bytes(f1, f2, f3, f4, f5, f6, f7, f8, f9, f10, f11, f12, f13);
@@ -182,4 +258,58 @@ fn check_files<'a>(f1: &'a [u8], f2: &'a [u8], f3: &'a [u8], f4: &'a [u8], f5: &
         return second;
     }
     first_unsound(f1, f2, f3, f4, f5, f6, f7, f8, f9, f10, f11, f12, f13)
+}
+
+// 7, 8 and 9, as a fault of the batch.
+fn linked_fault(l: Linked) -> Fault
+    ensures { λ r. ⌜ numberedFault r ≡ numberedLinked l ⌝ }
+{
+    match l {
+        Linked::Sound => Fault::None,
+        Linked::Used(file, k) => Fault::Used(file, k),
+        Linked::Dangling(file, k, f) => Fault::Dangling(file, k, f),
+        Linked::Misplaced(file, k, f) => Fault::Misplaced(file, k, f),
+    }
+}
+
+// The first fault of a batch, as far as 9. `order` is a hint and may hold anything: the promise doesn't mention it, and no answer depends
+// on it.
+pub fn check_links<'a>(
+    f1: &'a [u8],
+    f2: &'a [u8],
+    f3: &'a [u8],
+    f4: &'a [u8],
+    f5: &'a [u8],
+    f6: &'a [u8],
+    f7: &'a [u8],
+    f8: &'a [u8],
+    f9: &'a [u8],
+    f10: &'a [u8],
+    f11: &'a [u8],
+    f12: &'a [u8],
+    f13: &'a [u8],
+    order: &[u32],
+) -> Fault
+    ensures { λ r. ⌜ numberedFault r ≡ faultOf (thirteen (now (f1 .entry)) (now (f2 .entry)) (now (f3 .entry)) (now (f4 .entry)) (now (f5 .entry)) (now (f6 .entry)) (now (f7 .entry)) (now (f8 .entry)) (now (f9 .entry)) (now (f10 .entry)) (now (f11 .entry)) (now (f12 .entry)) (now (f13 .entry))) ⌝ }
+{
+    let fault = check_files(f1, f2, f3, f4, f5, f6, f7, f8, f9, f10, f11, f12, f13);
+    if !is_none(fault) {
+        return fault;
+    }
+    linked_fault(links_fault(
+        f1,
+        f2,
+        f3,
+        f4,
+        f5,
+        f6,
+        f7,
+        f8,
+        f9,
+        f10,
+        f11,
+        f12,
+        f13,
+        order,
+    ))
 }

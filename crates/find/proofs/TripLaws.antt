@@ -1,13 +1,13 @@
 -- The record of a trip that is next in key order: the least third number as a pass over the records finds it, and as the record with the
 -- least rank from some rank on shows it.
 use mathlib.Core.Path.{_≡_, refl, sym, ap, _∙_}
-use mathlib.Core.Bool.{true, false}
+use mathlib.Core.Bool.{Bool, true, false}
 use mathlib.Core.List.{List, [], _∷_, _++_}
 use Prim.Native.Nat.{ℕ, _+_, _*_, _-_, _≤_, _<_}
 use native.Mathlib.Omega.{arith}
 use lib.Dec.{eqb, ltb, leb}
 use lib.ListN.{length, getD}
-use borrow.Author.Tests.{eq-eqb, ne-eqb, eqb-true, eqb-false, lt-ltb, le-ltb, ltb-true, ltb-false, le-leb, leb-true, leb-false}
+use borrow.Author.Tests.{eq-eqb, ne-eqb, eqb-true, eqb-false, lt-ltb, le-ltb, ltb-true, ltb-false, le-leb, lt-leb, leb-true, leb-false}
 use Rattle.laws.specs.Tests.{pick, both, either, clash, both-left, both-right}
 use Rattle.file.specs.Files.{fieldsOf}
 use Rattle.file.specs.Format.{Fields, writtenRecord}
@@ -18,12 +18,12 @@ use Rattle.lines.specs.Lines.{behind}
 use Rattle.lines.specs.Order.{firstRanked, firstFrom, Above, Rising}
 use Rattle.lines.proofs.LineLaws.{size-one, Onward, place-on, place-start, next-line, next-at}
 use Rattle.lines.proofs.OrderLaws.{hit-anywhere, from-place, from-rank}
-use Rattle.keys.specs.Keys.{keyTable, keyFields, none, ofTrip, third, lesser, firstWith, nextNumber, nextOf}
-use Rattle.keys.specs.Ranks.{rank, rankOf, rankKey, Numbers, IsKeyed, KeyIs, recordAt}
+use Rattle.keys.specs.Keys.{keyFields, none, ofTrip, third, lesser, firstWith, nextNumber, nextOf}
+use Rattle.keys.specs.Ranks.{AllKeyed, rank, rankOf, rankKey, Numbers, IsKeyed, KeyIs, recordAt}
 use Rattle.keys.specs.KeyFiles.{KeyFile, KeysRise, PlaceIn, IsIndex, recordsFrom}
 use Rattle.keys.specs.declared.Key.{Key}
-use Rattle.keys.proofs.TableLaws.{one-of}
-use Rattle.keys.proofs.KeyLaws.{trip-of, of-trip, third-small}
+use Rattle.keys.proofs.TableLaws.{keyed-one, keyed-two, keyed-nine, keyed-three}
+use Rattle.keys.proofs.KeyLaws.{trip-of, of-trip, third-small, keyed-head, keyed-rest}
 use Rattle.keys.proofs.KeyFileLaws.{key-here, first-with}
 use Rattle.hinted.specs.Hinted.{entryRank, Lower}
 use Rattle.hinted.proofs.HintedLaws.{lower-hit, lower-least, entry-place}
@@ -32,22 +32,15 @@ use Rattle.find.proofs.FindLaws.{small-three}
 
 -- a key of three numbers is that of fields 1, 2 and 3
 three-fields : (file : ℕ) → IsKeyed file → length (keyFields file) ≡ 3 → keyFields file ≡ 1 ∷ 2 ∷ 3 ∷ []
-unfolding keyFields keyTable
-three-fields file k =
-    one-of (λ (f : ℕ). length (keyFields f) ≡ 3 → keyFields f ≡ 1 ∷ 2 ∷ 3 ∷ []) 2 9 (
-      λ e. absurd (omega arith),
-      (
-        λ e. absurd (omega arith),
-        (
-          λ e. absurd (omega arith),
-          (
-            λ e. absurd (omega arith),
-            (λ e. absurd (omega arith), (λ e. absurd (omega arith), (λ e. refl, (λ e. absurd (omega arith), (λ e. refl, tt))))),
-          ),
-        ),
-      ),
-    )
-    file (k .0) (omega arith)
+three-fields file k e =
+    let past : 8 ≤ file =
+    either (ltb file 6)
+    (λ t. absurd (omega (arith, ap length (keyed-one file (k .0) (ltb-true file 6 t)))))
+    (λ t.
+    either (ltb file 8)
+    (λ u. absurd (omega (arith, ap length (keyed-two file (ltb-false file 6 t) (ltb-true file 8 u)))))
+    (λ u. ltb-false file 8 u)) in
+    keyed-three file past (k .1) (λ z. omega (arith, ap length (keyed-nine file z)))
 
 -- the lesser of two numbers, as a difference
 lesser-is : (a b : ℕ) → lesser a b ≡ a - (a - b)
@@ -198,6 +191,18 @@ module _ (file line trip x : ℕ) where
   pub next-nothing : (rs : List Fields) → nextNumber file line trip x rs ≡ none → nextOf file line trip x rs ≡ Nothing
   unfolding nextOf
   next-nothing rs e = rw (eq-eqb (nextNumber file line trip x rs) none e)
+
+  -- no number has ten digits
+  pub next-beyond : (rs : List Fields) → AllKeyed file rs → none ≤ x → nextNumber file line trip x rs ≡ none
+  unfolding nextNumber
+  next-beyond [] a h = refl
+  next-beyond (r ∷ rs) a h =
+      let l : leb x (third file r) ≡ false = lt-leb x (third file r) (omega (arith, third-small file r (keyed-head file r rs a))) in
+      rw (l, no-both (ofTrip file line trip r)) (next-beyond rs (keyed-rest file r rs a) h)
+    where
+      no-both : (t : Bool) → both t false ≡ false
+      no-both true = refl
+      no-both false = refl
 
   pub next-found : (rs : List Fields) (y : ℕ) → y ≡ nextNumber file line trip x rs → (y ≡ none → ⊥)
       → nextOf file line trip x rs ≡ firstWith file (line ∷ trip ∷ y ∷ []) 0 rs

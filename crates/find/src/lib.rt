@@ -45,9 +45,9 @@ fn by_index(file: u64, s: &[u8], order: &[u32], k: Key) -> Found
     if i >= order.len() {
         return Found::Nothing;
     }
-    let at = order[i] as usize;
-    if equal(key_at(file, s, at), k) {
-        return Found::At(at);
+    let place = order[i] as usize;
+    if equal(key_at(file, s, place), k) {
+        return Found::At(place);
     }
     Found::Nothing
 }
@@ -218,8 +218,8 @@ fn next_by_index(file: u64, s: &[u8], order: &[u32], line: u64, trip: u64, x: u6
     if_of_trip(file, s, order[i] as usize, line, trip)
 }
 
-// inner: of the records of a trip, the one whose third number is the least from x on
-pub fn next_of_trip(
+// The same in whichever way serves.
+fn next_below(
     file: u64,
     s: &[u8],
     rises: bool,
@@ -248,6 +248,26 @@ pub fn next_of_trip(
         return next_by_index(file, s, part, line, trip, x);
     }
     next_by_search(file, s, line, trip, x)
+}
+
+// inner: of the records of a trip, the one whose third number is the least from x on; no number has ten digits
+pub fn next_of_trip(
+    file: u64,
+    s: &[u8],
+    rises: bool,
+    part: &[u32],
+    last: usize,
+    line: u64,
+    trip: u64,
+    x: u64,
+) -> Found
+    requires { ⌜ Asks file (now s) rises (now part) last 3 × (line < none) × (trip < none) ⌝ }
+    ensures { λ r. ⌜ r ≡ nextOf file line trip x (recordsIn (fieldsOf file) (now (s .entry))) ⌝ }
+{
+    if x >= 1000000000 {
+        return Found::Nothing;
+    }
+    next_below(file, s, rises, part, last, line, trip, x)
 }
 
 // inner: whether a record before the one that starts at `at` has its key

@@ -1,5 +1,6 @@
 -- A key as one number, so that keys are compared by numbers: the order of keys is that of their ranks, as each number of a key is below a
--- thousand million. Where a key has fewer than three numbers, it counts as if the last were 0.
+-- thousand million. The first two numbers, or the only one, make one part of it, and the third, or 0, the other; so ranks are compared
+-- within one file.
 use Prim.Native.Nat.{ℕ, _+_, _*_, _≤_, _<_}
 use mathlib.Core.Path.{_≡_}
 use mathlib.Core.Bool.{true}

@@ -56,6 +56,7 @@ OfKind file s = AllOfKind file (recordsIn (fieldsOf file) s)
 
 -- what is asked of the place of a record, to see whether its key is used: in a keyed file, the way to its records
 pub record UsedAsked (file : ℕ) (s : List ℕ) (at : ℕ) (order ways : List ℕ) : Type 0 where
+  pub low : 2 ≤ file
   pub size : 33 ≤ length ways
   pub way : IsKeyed file → Way file s order (howOf ways file) (fromOf ways file) (toOf ways file)
   pub place : PlaceIn file s at

@@ -3,4 +3,5 @@
 mod record;
 mod stage;
 
+pub use record::sign_of;
 pub use stage::links_fault;

@@ -16,10 +16,11 @@ use Rattle.keys.specs.Ranks.{IsKeyed, recordAt}
 use Rattle.find.specs.Find.{Serves}
 use Rattle.thirteen.specs.Batch.{Batch, fileIn}
 
--- the keys rise; the list's part is an index whose keys are all different
+-- how: 0 there is no way but record by record; 1 the keys rise; 2 the part is an index whose keys are all different; 3 it is an index
 abbrev pub rises : ℕ → Bool
 rises how = eqb how 1
 
+-- in these no two records have one key
 abbrev pub apart : ℕ → Bool
 apart how = oneOf (eqb how 1) (eqb how 2)
 

@@ -17,6 +17,7 @@ use Rattle.lines.proofs.OrderLaws.{is-rising, rises-start, rises-turn, rises-st
 use Rattle.lines.proofs.OrderLaws as order
 use Rattle.keys.specs.Keys.{none, keyOf, has}
 use Rattle.keys.specs.Ranks.{rankOf, rankKey, KeyIs, recordAt}
+use Rattle.ordered.specs.Narrowing.{Sought}
 use Rattle.keys.specs.KeyFiles.{KeyFile, KeysRise, PlaceIn, recordsFrom}
 use Rattle.keys.specs.declared.Key.{Key}
 use Rattle.keys.proofs.KeyLaws.{key-size}
@@ -75,11 +76,6 @@ module _ (file : ℕ) (s : List ℕ) (last : Key) (at : ℕ) (p : Passed file s 
   -- and so does the file's end
   pub passed-end : length s ≤ at → true ≡ isRising (rankOf file) (recordsIn (fieldsOf file) s)
   passed-end h = sym (rises-end (fieldsOf file) (rankOf file) s at (rankKey last) h) ∙ p .rest
-
--- what a search from `from` on has passed when it comes to `at`: the first record whose key isn't below x is that from there on
-pub record Sought (file : ℕ) (s : List ℕ) (x from at : ℕ) : Type 0 where
-  pub place : PlaceIn file s at
-  pub same : firstFrom (rankOf file) x at (recordsFrom file s at) ≡ firstFrom (rankOf file) x from (recordsFrom file s from)
 
 -- nothing yet
 pub sought-none : (file : ℕ) (s : List ℕ) (x from : ℕ) → PlaceIn file s from → Sought file s x from from

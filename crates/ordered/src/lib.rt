@@ -6,13 +6,14 @@ use keys::key_at;
 use keys::less;
 use lines::line_after;
 ghost use mathlib.Core.Path.{_≡_};
-ghost use Prim.Native.Nat.{_<_};
+ghost use Prim.Native.Nat.{_+_, _^_, _≤_, _<_};
 ghost use Rattle.file.specs.Files.{fieldsOf};
 ghost use Rattle.file.specs.Records.{recordsIn};
 ghost use Rattle.keys.specs.Keys.{none};
 ghost use Rattle.keys.specs.Ranks.{rankOf, rankKey};
 ghost use Rattle.lines.specs.Order.{isRising, firstFrom};
 ghost use Rattle.keys.specs.KeyFiles.{KeyFile, KeysRise, PlaceIn, recordsFrom};
+ghost use Rattle.ordered.specs.Narrowing.{Narrows, Narrowed};
 
 // Whether every key is above those before it.
 pub fn rising(file: u64, s: &[u8]) -> bool
@@ -50,26 +51,114 @@ fn scan(file: u64, s: &[u8], from: usize, x: Key) -> usize
     at
 }
 
-// The same of the whole file, by bisection: behind the next LF from the middle on a record starts.
+// A place from lo on and before hi to look at next: as far on the way as x is between the keys that were seen below it and above it, to
+// one part in 4096; the middle, where that says nothing.
+fn guess(lo: usize, hi: usize, below: u64, above: u64, x: u64) -> usize
+    requires { ⌜ lo < hi ⌝ }
+    ensures { λ r. ⌜ (lo ≤ r) × (r < hi) ⌝ }
+{
+    let size = hi - lo;
+    if x <= below {
+        return lo + size / 2;
+    }
+    if above <= x {
+        return lo + size / 2;
+    }
+    let parts = (x - below) / ((above - below) / 4096 + 1);
+    if parts >= 4096 {
+        return lo + size / 2;
+    }
+    part_of_way(lo, size, parts as usize)
+}
+
+// So many of 4096 parts of the way.
+fn part_of_way(lo: usize, size: usize, parts: usize) -> usize
+    requires { ⌜ (0 < size) × (lo + size < 2 ^ 64) × (parts < 4096) ⌝ }
+    ensures { λ r. ⌜ (lo ≤ r) × (r < lo + size) ⌝ }
+{
+    if size < 4096 {
+        return lo + size * parts / 4096;
+    }
+    lo + size / 4096 * parts
+}
+
+// Where to look next: so many looks go by the keys that were seen, the others to the middle, so that their number stays that of a bisection.
+fn next_look(lo: usize, hi: usize, below: u64, above: u64, x: u64, left: u64) -> usize
+    requires { ⌜ lo < hi ⌝ }
+    ensures { λ r. ⌜ (lo ≤ r) × (r < hi) ⌝ }
+{
+    if left == 0 {
+        return lo + (hi - lo) / 2;
+    }
+    guess(lo, hi, below, above, x)
+}
+
+// One less, as long as there is one.
+fn one_less(n: u64) -> u64 {
+    if n == 0 {
+        return 0;
+    }
+    n - 1
+}
+
+// What is left of a search: the record is sought from lo on, and none that starts from hi on is below it; and the keys that were seen.
+struct Left {
+    lo: usize,
+    hi: usize,
+    below: u64,
+    above: u64,
+}
+
+// One look: at the record behind the next LF from `mid` on.
+fn look(file: u64, s: &[u8], left: Left, mid: usize, x: Key) -> Left
+    requires { ⌜ Narrows file (now s) (rankKey x) (left .lo) (left .hi) mid × (x .lo < none) ⌝ }
+    ensures { λ r. ⌜ Narrowed file (now (s .entry)) (rankKey x) (left .lo) (left .hi) (r .lo) (r .hi) ⌝ }
+{
+    let to = line_after(s, mid);
+    if to >= left.hi {
+        return Left {
+            lo: left.lo,
+            hi: mid,
+            below: left.below,
+            above: left.above,
+        };
+    }
+    let k = key_at(file, s, to);
+    if less(k, x) {
+        return Left {
+            lo: to,
+            hi: left.hi,
+            below: k.hi,
+            above: left.above,
+        };
+    }
+    Left {
+        lo: left.lo,
+        hi: mid,
+        below: left.below,
+        above: k.hi,
+    }
+}
+
+// The same of the whole file, by bisection: behind the next LF from a place on a record starts. The first looks go where the keys that were
+// seen let expect x, the others to the middle; the last few bytes are gone through.
 fn bisect(file: u64, s: &[u8], x: Key) -> usize
     requires { ⌜ KeyFile file (now s) × KeysRise file (now s) × (x .lo < none) ⌝ }
     ensures { λ r. ⌜ r ≡ firstFrom (rankOf file) (rankKey x) 0 (recordsIn (fieldsOf file) (now (s .entry))) ⌝ }
 {
-    let mut lo = 0;
-    let mut hi = s.len();
-    while lo < hi {
-        let mid = lo + (hi - lo) / 2;
-        let to = line_after(s, mid);
-        if to >= hi {
-            return scan(file, s, lo, x);
-        }
-        if less(key_at(file, s, to), x) {
-            lo = to;
-        } else {
-            hi = mid;
-        }
+    let mut left = Left {
+        lo: 0,
+        hi: s.len(),
+        below: 0,
+        above: 0,
+    };
+    let mut guesses: u64 = 6;
+    while left.lo + 128 < left.hi {
+        let mid = next_look(left.lo, left.hi, left.below, left.above, x.hi, guesses);
+        left = look(file, s, left, mid, x);
+        guesses = one_less(guesses);
     }
-    scan(file, s, lo, x)
+    scan(file, s, left.lo, x)
 }
 
 // inner: the same, with the place that was found last and the one behind it tried first: neighbouring records ask neighbouring questions

@@ -1,8 +1,7 @@
 -- `batch::check_bytes` meets its contract: the lengths of all files come first, then their bytes.
-use mathlib.Core.Path.{_≡_, refl, sym, _∙_}
-use native.Mathlib.Omega.{arith}
+use mathlib.Core.Path.{sym, _∙_}
 use borrow.Author.Needs.{needs}
-use lib.ListN.{take, drop}
+use lib.ListN.{take}
 use denote.Ref.{now}
 use Rattle.thirteen.specs.Batch.{Batch, thirteen, overFiles}
 use Rattle.batch.specs.Order.{lengthFault, bytesFault, stages}

@@ -1,5 +1,5 @@
 -- `batch::check_files` meets its contract: the bytes of all files come first, then the version, then the fields.
-use mathlib.Core.Path.{_≡_, refl, sym, _∙_}
+use mathlib.Core.Path.{_≡_, sym, _∙_}
 use native.Mathlib.Omega.{arith}
 use borrow.Author.Needs.{needs}
 use lib.ListN.{take, drop}

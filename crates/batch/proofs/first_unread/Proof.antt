@@ -1,13 +1,13 @@
 -- `batch::first_unread` meets its contract. The loop's invariant: the first fault from `file` on is the first of all.
-use mathlib.Core.Path.{_≡_, refl, sym, ap, _∙_}
-use Prim.Native.Nat.{ℕ, _+_, _-_, _≤_, _<_}
+use mathlib.Core.Path.{_≡_, refl, sym, _∙_}
+use Prim.Native.Nat.{_-_, _≤_}
 use native.Mathlib.Omega.{arith}
 use borrow.Author.Needs.{needs}
 use denote.Ref.{now}
 use Rattle.batch.specs.Order.{bytesFault}
 use Rattle.batch.proofs.FileLaws.{some-fields, read-fault}
 use Rattle.batch.proofs.OrderLaws.{files-stop, files-next}
-use Rattle.thirteen.specs.Batch.{Batch, thirteen, recordsOf, overFiles}
+use Rattle.thirteen.specs.Batch.{Batch, thirteen, overFiles}
 use Rattle.thirteen.proofs.OverLaws.{over-done}
 use Rattle.batch.specs.Answers.{numberedFault}
 use Rattle.batch.proofs.first_unread.Statement.{statement}

@@ -1,17 +1,9 @@
 -- `batch::is_version` meets its contract: three bytes, each tested.
-use mathlib.Core.Path.{_≡_, refl, sym, _∙_}
-use mathlib.Core.Bool.{Bool, true, false}
-use mathlib.Core.List.{List, [], _∷_}
-use Prim.Native.Nat.{ℕ}
-use native.Mathlib.Omega.{arith}
+use mathlib.Core.Path.{sym}
 use borrow.Author.Needs.{needs}
 use borrow.Author.Tests.{eq-eqb, ne-eqb}
-use lib.Dec.{eqb}
-use lib.ListN.{length, getD}
+use lib.ListN.{getD}
 use denote.Ref.{now}
-use Rattle.laws.specs.Tests.{both}
-use Rattle.keys.specs.Keys.{same}
-use Rattle.batch.specs.Order.{isVersion}
 use Rattle.batch.proofs.FileLaws.{other-size, three-bytes}
 use Rattle.batch.proofs.is_version.Statement.{statement}
 use Rattle.batch.proofs.is_version.Tie as tie

@@ -1,5 +1,5 @@
 -- `batch::version_fault` meets its contract: no record, one that is cut and has one text, or more.
-use mathlib.Core.Path.{_≡_, refl, sym, ap, _∙_}
+use mathlib.Core.Path.{sym, _∙_}
 use native.Mathlib.Omega.{arith}
 use borrow.Author.Needs.{needs}
 use denote.Ref.{now}

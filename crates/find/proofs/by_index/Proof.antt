@@ -50,9 +50,9 @@ by-index-spec =
     (tie.spec
     (λ c κs. search needs)  -- lower-requires
     returns
-    (λ c. search needs)  -- mul-at
-    (λ c. search needs)  -- shared-slice-read-at
-    (λ c. omega (arith, c .shared-slice-known3 .given (c .before .before .lower .result)))  -- cast-at
+    (λ c. search needs)  -- mul-place
+    (λ c. search needs)  -- shared-slice-read-place
+    (λ c. omega (arith, c .shared-slice-known3 .given (c .before .before .lower .result)))  -- cast-place
     key-at-requires
     (λ c κs. search needs)  -- equal-requires
     returns-2

@@ -8,7 +8,8 @@ use lib.ListN.{length}
 use denote.Ref.{now}
 use Rattle.keys.specs.Ranks.{rankKey}
 use Rattle.keys.proofs.KeyFileLaws.{key-here}
-use Rattle.ordered.proofs.OrderedLaws.{Sought, sought-none, sought-next, sought-here, sought-end}
+use Rattle.ordered.specs.Narrowing.{Sought}
+use Rattle.ordered.proofs.OrderedLaws.{sought-none, sought-next, sought-here, sought-end}
 use Rattle.ordered.proofs.scan.Statement.{statement}
 use Rattle.ordered.proofs.scan.Tie as tie
 

@@ -1,0 +1,21 @@
+-- `ordered::part_of_way` meets its contract: fewer than 4096 of 4096 parts are less than the whole.
+use Prim.Native.Nat.{ℕ, _*_, _/_, _≤_, _<_}
+use native.Mathlib.Nat.{mul-le-mul-left}
+use native.Mathlib.Omega.{arith}
+use Rattle.ordered.proofs.part_of_way.Statement.{statement}
+use Rattle.ordered.proofs.part_of_way.Tie as tie
+
+-- fewer than 4096 times n
+most : (n parts : ℕ) → parts < 4096 → n * parts ≤ n * 4095
+most n parts h = mul-le-mul-left n (omega arith)
+
+pub part-of-way-spec : {M : Type 1} → statement M
+part-of-way-spec =
+    tie.close
+    (tie.spec
+    (λ c. let a = c .before .args in omega (arith, most (a .size) (a .parts) (c .before .pre .2)))  -- mul-result
+    (λ c. let a = c .before .args in omega (arith, most (a .size) (a .parts) (c .before .pre .2)))  -- add-result
+    (λ c. let a = c .before .args in (omega arith, omega (arith, most (a .size) (a .parts) (c .before .pre .2))))  -- returns
+    (λ c. let a = c .before .args in omega (arith, most (a .size / 4096) (a .parts) (c .before .pre .2)))  -- mul-result-2
+    (λ c. let a = c .before .args in omega (arith, most (a .size / 4096) (a .parts) (c .before .pre .2)))  -- add-result-2
+    (λ c. let a = c .before .args in (omega arith, omega (arith, most (a .size / 4096) (a .parts) (c .before .pre .2)))))  -- returns-2

@@ -1,0 +1,17 @@
+-- `slovdrim_links_hinted` hands on what the check answers.
+use mathlib.Core.Path.{ap, _∙_}
+use borrow.Author.Needs.{needs}
+use Rattle.slovdrim.specs.Checks.{linksResult}
+use Rattle.slovdrim.proofs.batches.slovdrim_links_hinted.Statement.{statement}
+use Rattle.slovdrim.proofs.batches.slovdrim_links_hinted.Tie as tie
+
+returns : tie.Need-returns
+returns c = c .handed .ensures ∙ ap linksResult (c .before .check-links .ensures)
+
+pub slovdrim-links-hinted-spec : {M : Type 1} → statement M
+slovdrim-links-hinted-spec =
+    tie.close
+    (tie.spec
+    (λ c κs. search needs)  -- check-links-requires
+    (λ c κs. search needs)  -- handed-requires
+    returns)

@@ -1,0 +1,321 @@
+//! Faults that are put into a batch that stands, each with the refusal and the place that follow from how it was made.
+
+use std::collections::BTreeSet;
+
+use crate::batches::{code_fields, ico_text, line_text, number, signs_for, written, written_for, Batch, KEY_FIELDS};
+use crate::damage::{break_field, break_rule, breaks};
+use crate::fields::{NOT_OF_ITS_KIND, RULE_BROKEN, SIGNS};
+use crate::format::{ENDS_INSIDE, FIELDS, NOT_LEGAL, TOO_LONG};
+use crate::generator::Random;
+use crate::links::{Bytes, KEY_USED, LINK_TO_NOTHING, SIGN_NOT_PERMITTED, WRONG_VERSION};
+use crate::maker::Maker;
+
+pub type Words = [u64; 5];
+
+pub const FINE: Words = [0; 5];
+
+/// A field of a batch: file, record from 0, field from 1.
+pub type Cell = (u64, usize, usize);
+
+#[derive(Clone)]
+pub enum Fault {
+    /// New texts for some fields. `leans_on`: fields that must stay as they are, or the fault is none.
+    Edits { edits: Vec<(Cell, Vec<u8>)>, leans_on: Vec<Cell>, want: Words },
+    /// The records of VerzeJDF.
+    Version(Vec<Vec<u8>>),
+    /// A byte at the beginning of a record that can't stand there.
+    Byte { file: u64, row: usize },
+    /// The last so many bytes cut off: 1 to 3.
+    Cut { file: u64, bytes: usize },
+    /// Zero bytes in place of the file, so many that it is too long.
+    Huge { file: u64, length: u64 },
+}
+
+pub fn key_used(file: u64, row: usize) -> Words {
+    [KEY_USED, file, row as u64 + 1, 0, 0]
+}
+
+pub fn to_nothing(file: u64, row: usize, field: usize) -> Words {
+    [LINK_TO_NOTHING, file, row as u64 + 1, field as u64, 0]
+}
+
+pub fn not_permitted(file: u64, row: usize, field: usize) -> Words {
+    [SIGN_NOT_PERMITTED, file, row as u64 + 1, field as u64, 0]
+}
+
+/// Which of two refusals comes first: the stage, then the place.
+pub fn rank(want: &Words) -> [u64; 4] {
+    let [number, file, record, field, _] = *want;
+    match number {
+        1 => [1, file, 0, 0],
+        2 | 3 => [2, file, 0, 0],
+        4 => [3, 0, 0, 0],
+        5 => [4, file, record, field],
+        6 => [4, file, record, 100],
+        7 => [5, file, record, 0],
+        8 => [5, file, record, 2 * field],
+        _ => [5, file, record, 2 * field + 1],
+    }
+}
+
+/// The links of each file by reported field, and the file that each goes to; the fields of codes are apart.
+pub fn plain_links(file: u64) -> Vec<(usize, u64)> {
+    match file {
+        5 => vec![(3, 4)],
+        6 | 9 | 12 => vec![(1, 5)],
+        7 => vec![(1, 5), (4, 2)],
+        8 => vec![(2, 6), (3, 7), (4, 2)],
+        10 => vec![(2, 6)],
+        11 => vec![(2, 6), (3, 4)],
+        13 => vec![(1, 5), (2, 6)],
+        _ => Vec::new(),
+    }
+}
+
+/// All linked fields of a file.
+pub fn linked_fields(file: u64) -> Vec<usize> {
+    let mut all: Vec<usize> = plain_links(file).iter().map(|l| l.0).chain(code_fields(file)).collect();
+    all.sort();
+    all
+}
+
+fn first_numbers(b: &Batch, file: u64) -> BTreeSet<u64> {
+    (0..b.count(file)).map(|row| b.key(file, row)[0]).collect()
+}
+
+/// A number below `end` that isn't in a set: near one that is, or any.
+fn missing(r: &mut Random, there: &BTreeSet<u64>, end: u64) -> u64 {
+    let all: Vec<u64> = there.iter().copied().collect();
+    loop {
+        let near = if all.is_empty() { 0 } else { all[r.below(all.len())] };
+        let n = match r.below(8) {
+            0 => near + 1,
+            1 => near.saturating_sub(1),
+            2 => near * 10,
+            3 => near / 10,
+            4 => near + 65_536,
+            5 => near % 65_536,
+            6 => [0, 1, end - 1][r.below(3)],
+            _ => r.below(end as usize) as u64,
+        };
+        if n < end && !there.contains(&n) {
+            return n;
+        }
+    }
+}
+
+/// A number that no record of `to` has together with this line; one that another line has, if there is one.
+fn missing_under(r: &mut Random, b: &Batch, to: u64, line: u64) -> u64 {
+    let keys: Vec<Vec<u64>> = (0..b.count(to)).map(|row| b.key(to, row)).collect();
+    let own: BTreeSet<u64> = keys.iter().filter(|k| k[0] == line).map(|k| k[1]).collect();
+    let of_others: Vec<u64> = keys.iter().map(|k| k[1]).filter(|n| !own.contains(n)).collect();
+    // 0 would be no trip of Mistenky
+    let own: BTreeSet<u64> = own.into_iter().chain([0]).collect();
+    let of_others: Vec<u64> = of_others.into_iter().filter(|&n| n > 0).collect();
+    if !of_others.is_empty() && !r.one_in(3) {
+        of_others[r.below(of_others.len())]
+    } else {
+        missing(r, &own, 1_000_000_000)
+    }
+}
+
+/// A link to nothing in one field of one record.
+pub fn dangling(r: &mut Random, b: &Batch, file: u64, row: usize, field: usize) -> Fault {
+    let cell = |f: usize| (file, row, f);
+    let want = to_nothing(file, row, field);
+    let one = |text: Vec<u8>| Fault::Edits { edits: vec![(cell(field), text)], leans_on: Vec::new(), want };
+    if code_fields(file).contains(&field) {
+        let n = missing(r, &first_numbers(b, 3), 100_000);
+        return one(written(r, n, 5));
+    }
+    let line = if file == 5 { 0 } else { number(&b.texts(file, row)[0]) };
+    match plain_links(file).iter().find(|l| l.0 == field).unwrap().1 {
+        2 => {
+            let n = missing(r, &first_numbers(b, 2), 1_000_000_000);
+            one(written(r, n, 9))
+        }
+        4 => one(ico_text(missing(r, &first_numbers(b, 4), 100_000_000))),
+        5 => one(line_text(missing(r, &first_numbers(b, 5), 1_000_000))),
+        to if to == 6 && file != 13 && r.one_in(3) => {
+            // the line instead of the trip: one that isn't there at all, or one that is there but not with this trip
+            let trip = number(&b.texts(file, row)[1]);
+            let with_it: BTreeSet<u64> = (0..b.count(6)).map(|t| b.key(6, t)).filter(|k| k[1] == trip).map(|k| k[0]).collect();
+            let lines: Vec<u64> = first_numbers(b, 5).into_iter().filter(|l| !with_it.contains(l)).collect();
+            let other = if lines.is_empty() || r.one_in(2) { missing(r, &first_numbers(b, 5), 1_000_000) } else { lines[r.below(lines.len())] };
+            Fault::Edits { edits: vec![(cell(1), line_text(other))], leans_on: vec![cell(2)], want }
+        }
+        to => {
+            let n = missing_under(r, b, to, line);
+            Fault::Edits { edits: vec![(cell(field), written(r, n, 9))], leans_on: vec![cell(1)], want }
+        }
+    }
+}
+
+/// Record `row`, which nobody needs, gets the key of record `like`. The later of the two is refused.
+pub fn same_key(r: &mut Random, b: &Batch, file: u64, row: usize, like: usize, alike: bool) -> Fault {
+    let fields = KEY_FIELDS[file as usize];
+    let mut edits: Vec<(Cell, Vec<u8>)> = Vec::new();
+    for field in 1..=fields {
+        let text = &b.texts(file, like)[field - 1];
+        edits.push(((file, row, field), if alike { text.clone() } else { written_for(r, file, field, number(text)) }));
+    }
+    if file == 3 && row < like {
+        edits.push(((3, row, 2), b.texts(3, like)[1].clone()));
+    }
+    Fault::Edits { edits, leans_on: (1..=fields).map(|f| (file, like, f)).collect(), want: key_used(file, row.max(like)) }
+}
+
+/// A code with this sign in one field; permitted or not.
+pub fn signed(r: &mut Random, b: &Batch, file: u64, row: usize, field: usize, sign: u8) -> Fault {
+    let stands = signs_for(file).contains(&sign);
+    let mut edits = vec![((file, row, field), b.known.code_text(r, sign))];
+    let mut want = if stands { FINE } else { not_permitted(file, row, field) };
+    if file == 8 {
+        let other = 13 - field;
+        let (text, other_sign) = match r.below(3) {
+            0 => (Vec::new(), None),
+            1 if field == 6 || stands => (b.known.code_text(r, sign), Some(sign)),
+            _ => {
+                let s = r.pick(&signs_for(8));
+                (b.known.code_text(r, s), Some(s))
+            }
+        };
+        if stands && other_sign.map_or(false, |s| s != sign) {
+            want = not_permitted(8, row, 7);
+        }
+        edits.push(((8, row, other), text));
+    }
+    Fault::Edits { edits, leans_on: Vec::new(), want }
+}
+
+fn differing(b: &Batch, file: u64, row: usize, now: &[Vec<u8>]) -> Vec<(Cell, Vec<u8>)> {
+    let before = b.texts(file, row);
+    (1..=before.len()).filter(|&f| before[f - 1] != now[f - 1]).map(|f| ((file, row, f), now[f - 1].clone())).collect()
+}
+
+/// Files in which a fault of this number can be.
+pub fn files_for(number: u64) -> Vec<u64> {
+    match number {
+        1..=3 => (1..=13).collect(),
+        4 => vec![1],
+        5 => (2..=13).collect(),
+        6 => (2..=13).filter(|&f| !breaks(f).is_empty()).collect(),
+        7 => (2..=10).collect(),
+        8 => vec![2, 5, 6, 7, 8, 9, 10, 11, 12, 13],
+        _ => vec![2, 6, 7, 8, 11],
+    }
+}
+
+/// A fault of this number in this file, in this record if there is a way.
+pub fn fault(m: &mut Maker, b: &Batch, number: u64, file: u64, row: Option<usize>) -> Option<Fault> {
+    let count = b.count(file);
+    if count == 0 && number > 1 && number != 4 {
+        return None;
+    }
+    let at = row.filter(|&r| r < count).unwrap_or_else(|| m.r.below(count.max(1)));
+    Some(match number {
+        1 => Fault::Huge { file, length: [1 << 24, 1 << 32, (1 << 32) + 8][m.r.below(3)] },
+        2 => Fault::Byte { file, row: at },
+        3 => Fault::Cut { file, bytes: 1 + m.r.below(3) },
+        4 => {
+            let all: [&[&[u8]]; 8] = [&[], &[b"1.8", b"1.8"], &[b"1.7"], &[b"1.80"], &[b""], &[b" 1.8"], &[b"1.8", b"1.7"], &[b"1"]];
+            Fault::Version(all[m.r.below(8)].iter().map(|t| t.to_vec()).collect())
+        }
+        5 => {
+            let mut now = b.texts(file, at).clone();
+            let field = 1 + m.r.below(FIELDS[file as usize - 1]);
+            break_field(m, file, &mut now, field);
+            Fault::Edits { edits: differing(b, file, at, &now), leans_on: Vec::new(), want: [NOT_OF_ITS_KIND, file, at as u64 + 1, field as u64, 0] }
+        }
+        6 => {
+            let mut now = b.texts(file, at).clone();
+            break_rule(m, file, &mut now);
+            let leans_on = breaks(file).iter().flat_map(|set| set.iter()).map(|&(f, _)| (file, at, f)).collect();
+            Fault::Edits { edits: differing(b, file, at, &now), leans_on, want: [RULE_BROKEN, file, at as u64 + 1, 0, 0] }
+        }
+        7 => {
+            let free = |r: usize| !b.files[file as usize][r].needed;
+            let pairs: Vec<(usize, usize)> = (0..count)
+                .flat_map(|i| (0..count).map(move |j| (i, j)))
+                .filter(|&(i, j)| i != j && free(i) && (row.is_none() || i.max(j) == at))
+                .collect();
+            if pairs.is_empty() {
+                return None;
+            }
+            let (i, j) = pairs[m.r.below(pairs.len())];
+            let alike = m.r.one_in(2);
+            same_key(&mut m.r, b, file, i, j, alike)
+        }
+        8 => {
+            let fields = linked_fields(file);
+            let field = fields[m.r.below(fields.len())];
+            dangling(&mut m.r, b, file, at, field)
+        }
+        _ => {
+            let fields = code_fields(file);
+            let field = fields[m.r.below(fields.len())];
+            let others: Vec<u8> = SIGNS.iter().copied().filter(|s| !signs_for(file).contains(s)).collect();
+            let sign = m.r.pick(&others);
+            Fault::Edits { edits: vec![((file, at, field), b.known.code_text(&mut m.r, sign))], leans_on: Vec::new(), want: not_permitted(file, at, field) }
+        }
+    })
+}
+
+/// Whether two faults leave each other alone.
+pub fn apart(a: &Fault, b: &Fault) -> bool {
+    let whole = |f: &Fault| match f {
+        Fault::Edits { .. } => None,
+        Fault::Version(_) => Some(1),
+        Fault::Byte { file, .. } | Fault::Cut { file, .. } | Fault::Huge { file, .. } => Some(*file),
+    };
+    match (a, b) {
+        // of three records with one key it is the second that is refused
+        (Fault::Edits { leans_on: la, want: [KEY_USED, ..], .. }, Fault::Edits { leans_on: lb, want: [KEY_USED, ..], .. }) if la == lb => false,
+        (Fault::Edits { edits: ea, leans_on: la, .. }, Fault::Edits { edits: eb, leans_on: lb, .. }) => {
+            let edited = |edits: &[(Cell, Vec<u8>)], cell: &Cell| edits.iter().any(|e| e.0 == *cell);
+            !eb.iter().map(|e| &e.0).chain(lb).any(|c| edited(ea, c)) && !la.iter().any(|c| edited(eb, c))
+        }
+        (Fault::Huge { file, .. }, Fault::Edits { edits, .. }) | (Fault::Edits { edits, .. }, Fault::Huge { file, .. }) => edits.iter().all(|e| e.0 .0 != *file),
+        // the driver can make one file huge
+        (Fault::Huge { .. }, Fault::Huge { .. }) => false,
+        _ => whole(a).is_none() || whole(a) != whole(b),
+    }
+}
+
+pub fn edit(b: &mut Batch, fault: &Fault) {
+    match fault {
+        Fault::Edits { edits, .. } => {
+            for ((file, row, field), text) in edits {
+                b.files[*file as usize][*row].texts[field - 1] = text.clone();
+            }
+        }
+        Fault::Version(texts) => {
+            let row = b.files[1][0].clone();
+            b.files[1] = texts.iter().map(|t| crate::batches::Row { texts: vec![t.clone()], ..row.clone() }).collect();
+        }
+        _ => (),
+    }
+}
+
+/// What the fault alone leads to; bytes that are damaged are damaged now.
+pub fn finish(bytes: &mut Bytes, fault: &Fault) -> Words {
+    match fault {
+        Fault::Edits { want, .. } => *want,
+        Fault::Version(texts) if texts.len() == 1 => [WRONG_VERSION, 1, 1, 1, 0],
+        Fault::Version(_) => [WRONG_VERSION, 1, 0, 0, 0],
+        Fault::Byte { file, row } => {
+            let of_file = &mut bytes[*file as usize - 1];
+            // LF stands at the end of a record and nowhere else
+            let ends: Vec<usize> = (0..of_file.len()).filter(|&i| of_file[i] == b'\n').collect();
+            let at = if *row == 0 { 0 } else { ends[*row - 1] + 1 };
+            of_file[at] = b'x';
+            [NOT_LEGAL, *file, 0, 0, at as u64]
+        }
+        Fault::Cut { file, bytes: n } => {
+            let of_file = &mut bytes[*file as usize - 1];
+            of_file.truncate(of_file.len() - n);
+            [ENDS_INSIDE, *file, 0, 0, of_file.len() as u64]
+        }
+        Fault::Huge { file, .. } => [TOO_LONG, *file, 0, 0, 0],
+    }
+}

@@ -1,0 +1,91 @@
+//! Two faults in one batch: the order of the refusals 1 to 9.
+
+use crate::asker::{Asked, Asker};
+use crate::batch_faults::{apart, fault, files_for, finish, rank, Fault, Words};
+use crate::batches::{Batch, ORDERS, SMALL};
+use crate::link::Link;
+use crate::maker::Maker;
+
+fn row_of(fault: &Fault) -> Option<usize> {
+    match fault {
+        Fault::Edits { want, .. } => Some(want[2] as usize - 1),
+        Fault::Byte { row, .. } => Some(*row),
+        _ => None,
+    }
+}
+
+fn relation(first: &Words, second: &Words) -> &'static str {
+    let same_stage = rank(first)[0] == rank(second)[0];
+    match second[1].cmp(&first[1]) {
+        std::cmp::Ordering::Less => "earlier file",
+        std::cmp::Ordering::Greater => "later file",
+        _ if !same_stage => "same file",
+        _ if first[2] == second[2] => "same record",
+        _ => "later record",
+    }
+}
+
+fn pair_name(first: &Words, second: &Words) -> String {
+    format!("{} before {}, {}", first[0], second[0], relation(first, second))
+}
+
+/// Two faults in one batch, of all numbers and in all places to each other.
+pub fn two_faults(link: &mut Link) {
+    let mut m = Maker::new(42);
+    let mut a = Asker::new(link, 42);
+    for i in 0..2600 {
+        let b = Batch::arranged(&mut m, &SMALL, ORDERS[i % 5]);
+        // half of the pairs are of keys, links and signs alone
+        let (least, many) = if i % 2 == 0 { (7, 3) } else { (1, 9) };
+        let (one, two) = ((least + m.r.below(many)) as u64, (least + m.r.below(many)) as u64);
+        let files = files_for(one);
+        let file = files[m.r.below(files.len())];
+        let first = match fault(&mut m, &b, one, file, None) {
+            Some(f) => f,
+            None => continue,
+        };
+        // in the same record if there is a way, in the same file, or anywhere
+        let files = files_for(two);
+        let near = m.r.below(3);
+        let second = if near < 2 && files.contains(&file) {
+            fault(&mut m, &b, two, file, if near == 0 { row_of(&first) } else { None })
+        } else {
+            let other = files[m.r.below(files.len())];
+            fault(&mut m, &b, two, other, None)
+        };
+        let second = match second {
+            Some(f) if apart(&first, &f) => f,
+            _ => continue,
+        };
+        let mut bytes = b.bytes();
+        let mut both = [finish(&mut bytes, &first), finish(&mut bytes, &second)];
+        both.sort_by_key(rank);
+        let name = pair_name(&both[0], &both[1]);
+        a.ask_faults(&b, &[&first, &second], None, &[name], Asked::Some(6));
+    }
+}
+
+/// Every pair of refusals that can stand in one batch, the one that is answered first, in every way of standing to each other.
+pub fn pairs() -> Vec<String> {
+    let stage = |n: u64| rank(&[n, 2, 1, 1, 0])[0];
+    let mut all = Vec::new();
+    for first in 1..=9u64 {
+        for second in 1..=9u64 {
+            let relations: &[&str] = match (first, second) {
+                _ if stage(first) > stage(second) => &[],
+                (1, 1) => &["later file"],
+                (4, 4) => &[],
+                (1, 4) => &["earlier file"],
+                (2 | 3, 4) => &["earlier file", "same file"],
+                (4, _) => &["later file"],
+                (1, _) => &["earlier file", "later file"],
+                (2 | 3, 2 | 3) => &["later file"],
+                (5, 5 | 6) | (7, 8 | 9) | (8 | 9, 8 | 9) => &["same record", "later record", "later file"],
+                _ if stage(first) == stage(second) => &["later record", "later file"],
+                _ => &["earlier file", "same file", "later file"],
+            };
+            all.extend(relations.iter().map(|r| format!("{} before {}, {}", first, second, r)));
+        }
+    }
+    all
+}

@@ -1,0 +1,333 @@
+//! Batches that stand, by seed: every key once, every link met, every sign permitted. They are made so and not picked out, so that the model's own judgement
+//! has no part in it.
+
+use std::collections::BTreeSet;
+
+use crate::fields::SIGNS;
+use crate::format::{writing, Record};
+use crate::generator::Random;
+use crate::maker::Maker;
+
+/// A record, and whether a link of another record needs it.
+#[derive(Clone)]
+pub struct Row {
+    pub texts: Record,
+    pub needed: bool,
+}
+
+/// The records that a link may be put to, by their numbers. Others of their files are there that no link needs.
+#[derive(Clone, Default)]
+pub struct Known {
+    pub codes: Vec<(u64, u8)>,
+    pub stops: Vec<u64>,
+    pub carriers: Vec<u64>,
+    pub lines: Vec<u64>,
+    pub trips: Vec<(u64, u64)>,
+    pub line_stops: Vec<(u64, u64)>,
+}
+
+#[derive(Clone)]
+pub struct Batch {
+    /// By file number; the first is none.
+    pub files: Vec<Vec<Row>>,
+    pub known: Known,
+}
+
+/// How many records each file has, by file number.
+pub type Sizes = [usize; 14];
+
+pub const SMALL: Sizes = [0, 1, 6, 37, 4, 5, 8, 10, 14, 5, 6, 4, 3, 5];
+
+/// How many fields make the key of each file: always its first ones.
+pub const KEY_FIELDS: Sizes = [0, 0, 1, 1, 1, 1, 2, 2, 3, 2, 3, 0, 0, 0];
+
+/// Of these files so many records are needed by nobody.
+const SPARE: usize = 2;
+
+/// The ways in which the records of a file can stand.
+#[derive(Clone, Copy, PartialEq, Eq)]
+pub enum Order {
+    Rising,
+    Falling,
+    Shuffled,
+    /// Rising but for one record.
+    Nearly,
+    /// Each file in a way of its own.
+    Mixed,
+}
+
+pub const ORDERS: [Order; 5] = [Order::Rising, Order::Falling, Order::Shuffled, Order::Nearly, Order::Mixed];
+
+pub fn number(text: &[u8]) -> u64 {
+    std::str::from_utf8(text).unwrap().parse().unwrap()
+}
+
+/// A number with leading zeros or without, to so many digits.
+pub fn written(r: &mut Random, number: u64, longest: usize) -> Vec<u8> {
+    let width = if r.one_in(2) { 1 } else { 1 + r.below(longest) };
+    format!("{:0width$}", number, width = width).into_bytes()
+}
+
+pub fn line_text(line: u64) -> Vec<u8> {
+    format!("{:06}", line).into_bytes()
+}
+
+pub fn ico_text(carrier: u64) -> Vec<u8> {
+    format!("{:08}", carrier).into_bytes()
+}
+
+/// A number of one field, as that field may hold it: the files that keep such numbers as keys say which.
+pub fn written_for(r: &mut Random, file: u64, field: usize, number: u64) -> Vec<u8> {
+    match (file, field) {
+        (4, 1) | (5, 3) | (11, 3) => ico_text(number),
+        (5..=13, 1) => line_text(number),
+        (3, 1) => written(r, number, 5),
+        _ if code_fields(file).contains(&field) => written(r, number, 5),
+        _ => written(r, number, 9),
+    }
+}
+
+pub fn code_fields(file: u64) -> Vec<usize> {
+    match file {
+        2 => vec![7, 8, 9, 10, 11, 12],
+        6 => vec![3, 4, 5, 6, 7, 8, 9, 10, 11, 12],
+        7 => vec![5, 6, 7],
+        8 => vec![6, 7],
+        11 => vec![4, 5, 6, 7, 8, 9],
+        _ => Vec::new(),
+    }
+}
+
+/// The signs that a file's code fields may have.
+pub fn signs_for(file: u64) -> Vec<u8> {
+    let apart: &[&[u8]] = match file {
+        2 => &[b"@", b"%", b"W", b"w", b"x", b"~", b"}", b"v"],
+        6 => &[b"X", b"+", b"1", b"2", b"3", b"4", b"5", b"6", b"7", b"R", b"#", b"@", b"%", b"I", b"{", b"[", b"O", b"s"],
+        7 => &[b"(", b")", b"x", &[0xa7], b"$"],
+        8 => &[b"(", b")", b"x", &[0xa7]],
+        11 => &[b"X", b"+", b"1", b"2", b"3", b"4", b"5", b"6", b"7"],
+        _ => &[],
+    };
+    apart.concat()
+}
+
+/// So many different numbers below `end`: those at the edges of digits and of bits, small ones, and any.
+fn different(r: &mut Random, count: usize, end: u64) -> Vec<u64> {
+    let telling = [0, 1, 2, 3, 9, 10, 11, 12, 21, 99, 100, 101, 110, 111, 112, 255, 256, 999, 1000, 65_535, 65_536, 65_537, 1 << 20, (1 << 20) + 1, 1 << 24, 1 << 29, end - 1];
+    let mut seen = BTreeSet::new();
+    let mut all = Vec::new();
+    while all.len() < count {
+        let n = match r.below(3) {
+            0 => telling[r.below(telling.len())],
+            1 => r.below(2 * count + 4) as u64,
+            _ => r.below(end as usize) as u64,
+        };
+        if n < end && seen.insert(n) {
+            all.push(n);
+        }
+    }
+    all
+}
+
+/// So many different pairs of a line and a number: the lines in turn, the numbers from one list, so that lines have many of them in common.
+fn under_lines(r: &mut Random, lines: &[u64], count: usize, end: u64) -> Vec<(u64, u64)> {
+    let each = (count + lines.len() - 1) / lines.len();
+    let numbers = different(r, each + 2, end);
+    let mut all = Vec::new();
+    for &line in lines {
+        let mut own = numbers.clone();
+        shuffle(r, &mut own);
+        all.extend(own[..each].iter().map(|&n| (line, n)));
+    }
+    // the lines in turn, so that what is cut off isn't all of one line
+    let mut turn: Vec<(u64, u64)> = (0..each).flat_map(|i| (0..lines.len()).map(move |l| l * each + i)).map(|i| all[i]).collect();
+    turn.truncate(count);
+    turn
+}
+
+pub fn shuffle<T>(r: &mut Random, all: &mut [T]) {
+    for i in (1..all.len()).rev() {
+        all.swap(i, r.below(i + 1));
+    }
+}
+
+impl Known {
+    fn one<T: Copy>(r: &mut Random, from: &[T]) -> T {
+        from[r.below(from.len())]
+    }
+
+    /// A code number with this sign.
+    pub fn code(&self, r: &mut Random, sign: u8) -> u64 {
+        let all: Vec<u64> = self.codes.iter().filter(|(_, s)| *s == sign).map(|(n, _)| *n).collect();
+        Known::one(r, &all)
+    }
+
+    pub fn code_text(&self, r: &mut Random, sign: u8) -> Vec<u8> {
+        let code = self.code(r, sign);
+        written(r, code, 5)
+    }
+}
+
+impl Batch {
+    pub fn make(m: &mut Maker, sizes: &Sizes) -> Batch {
+        let mut b = Batch { files: vec![Vec::new(); 14], known: Known::default() };
+        b.files[1].push(Row { texts: vec![b"1.8".to_vec()], needed: false });
+        b.lists(m, sizes);
+        b.lines_and_trips(m, sizes);
+        b.the_rest(m, sizes);
+        b
+    }
+
+    fn add(&mut self, m: &mut Maker, file: u64, needed: bool, numbers: &[(usize, u64)]) {
+        let mut texts = m.legal(file);
+        for field in code_fields(file) {
+            let sign = m.r.pick(&signs_for(file));
+            texts[field - 1] = if m.r.one_in(2) { Vec::new() } else { self.known.code_text(&mut m.r, sign) };
+        }
+        if file == 8 && !texts[5].is_empty() && !texts[6].is_empty() {
+            let sign = m.r.pick(&signs_for(8));
+            for i in [5, 6] {
+                texts[i] = self.known.code_text(&mut m.r, sign);
+            }
+        }
+        // one of code, type and from-date is given, whatever becomes of the codes
+        if file == 11 && texts[11].is_empty() {
+            texts[9] = vec![m.r.pick(b"56")];
+        }
+        for &(field, number) in numbers {
+            texts[field - 1] = written_for(&mut m.r, file, field, number);
+        }
+        self.files[file as usize].push(Row { texts, needed });
+    }
+
+    /// Codes, stops and carriers.
+    fn lists(&mut self, m: &mut Maker, sizes: &Sizes) {
+        let codes = different(&mut m.r, sizes[3], 100_000);
+        for (i, &n) in codes.iter().enumerate() {
+            // every sign, those of Zasspoje twice, then any
+            let sign = *SIGNS.iter().chain(b"()x\xa7").nth(i).unwrap_or(&m.r.pick(SIGNS));
+            let needed = i + SPARE < codes.len();
+            if needed {
+                self.known.codes.push((n, sign));
+            }
+            self.add(m, 3, needed, &[(1, n)]);
+            self.files[3][i].texts[1] = vec![sign];
+        }
+        let stops = different(&mut m.r, sizes[2], 1_000_000_000);
+        for (i, &n) in stops.iter().enumerate() {
+            self.add(m, 2, i + SPARE < stops.len(), &[(1, n)]);
+        }
+        self.known.stops = stops[..stops.len() - SPARE].to_vec();
+        let carriers = different(&mut m.r, sizes[4], 100_000_000);
+        for (i, &n) in carriers.iter().enumerate() {
+            self.add(m, 4, i + SPARE < carriers.len(), &[(1, n)]);
+        }
+        self.known.carriers = carriers[..carriers.len() - SPARE].to_vec();
+    }
+
+    fn lines_and_trips(&mut self, m: &mut Maker, sizes: &Sizes) {
+        let lines = different(&mut m.r, sizes[5], 1_000_000);
+        for (i, &n) in lines.iter().enumerate() {
+            let carrier = Known::one(&mut m.r, &self.known.carriers);
+            self.add(m, 5, i + SPARE < lines.len(), &[(1, n), (3, carrier)]);
+        }
+        self.known.lines = lines[..lines.len() - SPARE].to_vec();
+        // few lines have all the trips, so that a trip has many stops to be put to
+        let busy = &self.known.lines[..self.known.lines.len().min(3)].to_vec();
+        let trips = under_lines(&mut m.r, busy, sizes[6], 1_000_000_000);
+        for (i, &(line, n)) in trips.iter().enumerate() {
+            self.add(m, 6, i + SPARE < trips.len(), &[(1, line), (2, n)]);
+        }
+        self.known.trips = trips[..trips.len() - SPARE].to_vec();
+        let line_stops = under_lines(&mut m.r, busy, sizes[7], 1_000_000_000);
+        for (i, &(line, n)) in line_stops.iter().enumerate() {
+            let stop = Known::one(&mut m.r, &self.known.stops);
+            self.add(m, 7, i + SPARE < line_stops.len(), &[(1, line), (2, n), (4, stop)]);
+        }
+        self.known.line_stops = line_stops[..line_stops.len() - SPARE].to_vec();
+    }
+
+    fn the_rest(&mut self, m: &mut Maker, sizes: &Sizes) {
+        let known = self.known.clone();
+        let mut all: Vec<[u64; 3]> = Vec::new();
+        for &(line, trip) in &known.trips {
+            all.extend(known.line_stops.iter().filter(|s| s.0 == line).map(|s| [line, trip, s.1]));
+        }
+        shuffle(&mut m.r, &mut all);
+        assert!(all.len() >= sizes[8], "{} trip stops at most", all.len());
+        for &[line, trip, tariff] in &all[..sizes[8]] {
+            let stop = Known::one(&mut m.r, &known.stops);
+            self.add(m, 8, false, &[(1, line), (2, trip), (3, tariff), (4, stop)]);
+        }
+        for (line, n) in under_lines(&mut m.r, &known.lines, sizes[9], 1_000_000_000) {
+            self.add(m, 9, false, &[(1, line), (2, n)]);
+        }
+        let each = sizes[10] / known.trips.len() + 1;
+        for i in 0..sizes[10] {
+            let (line, trip) = known.trips[i / each];
+            self.add(m, 10, false, &[(1, line), (2, trip), (3, (i % each) as u64 * 7 + trip % 3)]);
+        }
+        for _ in 0..sizes[11] {
+            let ((line, trip), carrier) = (Known::one(&mut m.r, &known.trips), Known::one(&mut m.r, &known.carriers));
+            self.add(m, 11, false, &[(1, line), (2, trip), (3, carrier)]);
+        }
+        for _ in 0..sizes[12] {
+            let line = Known::one(&mut m.r, &known.lines);
+            self.add(m, 12, false, &[(1, line)]);
+        }
+        for i in 0..sizes[13] {
+            let (line, trip) = if i % 2 == 0 { (Known::one(&mut m.r, &known.lines), 0) } else { Known::one(&mut m.r, &known.trips) };
+            self.add(m, 13, false, &[(1, line), (2, trip)]);
+        }
+    }
+
+    pub fn key(&self, file: u64, row: usize) -> Vec<u64> {
+        self.files[file as usize][row].texts[..KEY_FIELDS[file as usize]].iter().map(|t| number(t)).collect()
+    }
+
+    fn arrange_file(&mut self, r: &mut Random, file: u64, order: Order) {
+        let rows = &mut self.files[file as usize];
+        shuffle(r, rows);
+        if order == Order::Shuffled || KEY_FIELDS[file as usize] == 0 {
+            return;
+        }
+        let keys = KEY_FIELDS[file as usize];
+        rows.sort_by_key(|row| row.texts[..keys].iter().map(|t| number(t)).collect::<Vec<u64>>());
+        match order {
+            Order::Falling => rows.reverse(),
+            Order::Nearly if rows.len() > 1 => {
+                let from = r.below(rows.len());
+                let row = rows.remove(from);
+                let to = r.below(rows.len() + 1);
+                rows.insert(to, row);
+            }
+            _ => (),
+        }
+    }
+
+    /// Puts the records of each file into an order; what a batch holds doesn't change by it.
+    pub fn arrange(&mut self, r: &mut Random, order: Order) {
+        for file in 2..=13 {
+            let own = if order == Order::Mixed { ORDERS[r.below(4)] } else { order };
+            self.arrange_file(r, file, own);
+        }
+    }
+
+    pub fn arranged(m: &mut Maker, sizes: &Sizes, order: Order) -> Batch {
+        let mut b = Batch::make(m, sizes);
+        b.arrange(&mut m.r, order);
+        b
+    }
+
+    pub fn bytes(&self) -> Vec<Vec<u8>> {
+        self.files[1..].iter().map(|rows| writing(&rows.iter().map(|row| row.texts.clone()).collect::<Vec<Record>>())).collect()
+    }
+
+    pub fn texts(&self, file: u64, row: usize) -> &Record {
+        &self.files[file as usize][row].texts
+    }
+
+    pub fn count(&self, file: u64) -> usize {
+        self.files[file as usize].len()
+    }
+}

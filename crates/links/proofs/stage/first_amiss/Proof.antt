@@ -44,14 +44,16 @@ returns c =
     let x = c .before .before .before .amiss-at in
     let l = c .before .before .before .before .before .before .loop in
     let a = c .before .before .before .before .before .before .before .before .before .before .before .before .before .before .before .before .before .before .before .before .before .before .before .before .before .args in
-    (sym (amiss-hit _ (a .file) _ (l .f) _ (c .before .before .before .before .before .loop-test .taken) (λ e. c .if1 .taken (x .ensures .0 ∙ e))) ∙ l .inv .5, x .ensures .1)
+    let more : l .f ≤ c .before .before .before .before .before .before .before .fields-of .result = omega (arith, c .before .before .before .before .before .loop-test .taken) in
+    (sym (amiss-hit _ (a .file) _ (l .f) _ more (λ e. c .if1 .taken (x .ensures .0 ∙ e))) ∙ l .inv .5, x .ensures .1)
 
 loop-again : tie.Need-loop-again Inv-loop μ-loop
 loop-again c =
     let x = c .before .before .before .amiss-at in
     let l = c .before .before .before .before .before .before .loop in
     let a = c .before .before .before .before .before .before .before .before .before .before .before .before .before .before .before .before .before .before .before .before .before .before .before .before .before .args in
-    (omega arith, l .inv .1, omega (arith, c .before .before .before .before .before .loop-test .taken), x .ensures .1, x .kept .1 .1 .1 .1 .1 .1 .1 .1 .1 .1 .1 .1 .1 .1 .1 .1 .1 .1 .1 .1 .0 ∙ l .inv .4, sym (amiss-turn _ (a .file) _ (l .f) _ (c .before .before .before .before .before .loop-test .taken) (sym (x .ensures .0) ∙ c .if1 .left)) ∙ l .inv .5)
+    let more : l .f ≤ c .before .before .before .before .before .before .before .fields-of .result = omega (arith, c .before .before .before .before .before .loop-test .taken) in
+    (omega arith, l .inv .1, omega (arith, more), x .ensures .1, x .kept .1 .1 .1 .1 .1 .1 .1 .1 .1 .1 .1 .1 .1 .1 .1 .1 .1 .1 .1 .1 .0 ∙ l .inv .4, sym (amiss-turn _ (a .file) _ (l .f) _ more (sym (x .ensures .0) ∙ c .if1 .left)) ∙ l .inv .5)
 
 returns-2 : tie.Need-returns-2 Inv-loop μ-loop
 returns-2 c =

@@ -11,6 +11,7 @@ use borrow.Author.Tests.{eqb-true, eqb-false, eq-eqb}
 use Rattle.laws.specs.Tests.{pick, either}
 use Rattle.laws.specs.Numbered.{Numbered, answered}
 use Rattle.file.specs.Format.{Fields}
+use Rattle.thirteen.proofs.OverLaws.{over-each}
 use Rattle.thirteen.specs.Batch.{Batch, recordsOf, overFiles}
 use Rattle.link.specs.Links.{linkOf, met}
 use Rattle.link.specs.Signs.{signFits}
@@ -164,26 +165,10 @@ module _ (b : Batch) (file : ℕ) where
   unfolding linkFault
   clean-file h = clean-faults 1 [] (recordsOf b file) h
 
--- several files, where no file's fault but `answered []` has number 0
-module _ (fault : ℕ → Numbered) (settled : (file : ℕ) → fault file .number ≡ 0 → fault file ≡ answered []) where
-  -- where the first fault of all is none, the first file has none, nor have the others
-  pub over-turn : (file count : ℕ) → overFiles fault file (suc count) ≡ answered []
-      → (fault file ≡ answered []) × (overFiles fault (file + 1) count ≡ answered [])
-  unfolding overFiles
-  over-turn file count e =
-      either (eqb (fault file .number) 0)
-      (λ p. (settled file (eqb-true (fault file .number) 0 p), rw p at e))
-      (λ p.
-      let z : fault file ≡ answered [] = rw p at e in
-      absurd (eqb-false (fault file .number) 0 p (ap (λ (n : Numbered). n .number) z)))
-
-  -- each of several files has no fault where the first fault of all is none
-  pub over-none : (file count : ℕ) → overFiles fault file count ≡ answered [] → (i : ℕ) → i < count → fault (file + i) ≡ answered []
-  over-none file zero e i l = absurd (omega arith)
-  over-none file (suc count) e zero l = let z : file + 0 ≡ file = omega arith in rw z (over-turn file count e .0)
-  over-none file (suc count) e (suc i) l =
-      let z : file + suc i ≡ file + 1 + i = omega arith in
-      rw z (over-none (file + 1) count (over-turn file count e .1) i (omega arith))
+-- each of several files has no fault where the first fault of all is none, if no file's fault but `answered []` has number 0
+pub over-none : (fault : ℕ → Numbered) → ((file : ℕ) → fault file .number ≡ 0 → fault file ≡ answered [])
+    → (file count : ℕ) → overFiles fault file count ≡ answered [] → (i : ℕ) → i < count → fault (file + i) ≡ answered []
+over-none fault settled file count e i l = settled (file + i) (over-each fault file count (ap (λ (n : Numbered). n .number) e) i l)
 
 -- and the other way
 pub none-over : (fault : ℕ → Numbered) (file count : ℕ) → ((i : ℕ) → i < count → fault (file + i) ≡ answered []) → overFiles fault file count ≡ answered []

@@ -32,6 +32,7 @@ use Rattle.link.proofs.FaultLaws.{file-clean, file-settled, first-wrong}
 use Rattle.link.proofs.TableLaws.{record-length}
 use Rattle.find.specs.Find.{Serves}
 use Rattle.lookup.specs.Ways.{Looks, Lasts, Way, howOf, fromOf, toOf, partOf, apart}
+use Rattle.thirteen.proofs.OverLaws.{over-next, over-stop, over-done}
 use Rattle.thirteen.specs.Batch.{Batch, fileIn, overFiles}
 use Rattle.links.specs.Sound.{SoundFiles, OfKind, StopsMet, Known, Record, UsedAsked, Used}
 use Rattle.links.proofs.SoundLaws.{sound-kinds}
@@ -254,28 +255,6 @@ unfolding met reaches target linkFields numbers linkOf links zaslinky fieldsOf f
 stops-met b e i h =
     let n = record-length (fieldsOf 7) (fileIn b 7) i h in
     file-clean b 7 e i h .1 4 (omega arith) (omega (arith, n)) .0
-
--- The files from one on, up to file 13.
-module _ (fault : ℕ → Numbered) (file : ℕ) where
-  -- none are left
-  over-done : 14 ≤ file → overFiles fault file (14 - file) ≡ answered []
-  unfolding overFiles
-  over-done h = let z : 14 - file ≡ 0 = omega arith in rw z
-
-  module _ (h : file < 14) where
-    -- there is one more
-    turn : 14 - file ≡ suc (14 - (file + 1))
-    turn = omega arith
-
-    -- a file has none
-    over-next : fault file .number ≡ 0 → overFiles fault file (14 - file) ≡ overFiles fault (file + 1) (14 - (file + 1))
-    unfolding overFiles
-    over-next e = rw (turn, eq-eqb (fault file .number) 0 e)
-
-    -- a file has one
-    over-stop : (fault file .number ≡ 0 → ⊥) → overFiles fault file (14 - file) ≡ fault file
-    unfolding overFiles
-    over-stop e = rw (turn, ne-eqb (fault file .number) 0 e)
 
 -- Where the files were gone through up to one: the first fault of the rest is the batch's, and file 7 has none once it was passed.
 pub record Onward (b : Batch) (file : ℕ) : Type 0 where

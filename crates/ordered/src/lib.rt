@@ -152,17 +152,29 @@ fn look(file: u64, s: &[u8], left: Left, mid: usize, x: Key) -> Left
     }
 }
 
-// The same of the whole file, by bisection: behind the next LF from a place on a record starts. The first looks go where the keys that were
-// seen let expect x, the others to the middle; the last few bytes are gone through.
-fn bisect(file: u64, s: &[u8], x: Key) -> usize
-    requires { ⌜ KeyFile file (now s) × KeysRise file (now s) × (x .lo < none) ⌝ }
+// The first key of a file, where there is something to bisect.
+fn first_key(file: u64, s: &[u8], hi: usize) -> u64
+    requires { ⌜ KeyFile file (now s) × (hi ≤ length (now s)) ⌝ }
+{
+    if hi <= 128 {
+        return 0;
+    }
+    let k = key_at(file, s, 0);
+    k.hi
+}
+
+// The same of the whole file, by bisection: behind the next LF from a place on a record starts. It is expected before `hi`, where the key
+// `above` was seen; the first looks go where the keys that were seen let expect x, the others to the middle; the last few bytes are gone through.
+fn bisect(file: u64, s: &[u8], hi: usize, above: u64, x: Key) -> usize
+    requires { ⌜ KeyFile file (now s) × KeysRise file (now s) × (hi ≤ length (now s)) × (x .lo < none) ⌝ }
     ensures { λ r. ⌜ r ≡ firstFrom (rankOf file) (rankKey x) 0 (recordsIn (fieldsOf file) (now (s .entry))) ⌝ }
 {
+    let below = first_key(file, s, hi);
     let mut left = Left {
         lo: 0,
-        hi: s.len(),
-        below: 0,
-        above: 0,
+        hi: hi,
+        below: below,
+        above: above,
     };
     let mut guesses: u64 = 6;
     while left.lo + 128 < left.hi {
@@ -179,14 +191,14 @@ pub fn first_from(file: u64, s: &[u8], last: usize, x: Key) -> usize
     ensures { λ r. ⌜ r ≡ firstFrom (rankOf file) (rankKey x) 0 (recordsIn (fieldsOf file) (now (s .entry))) ⌝ }
 {
     if last >= s.len() {
-        return bisect(file, s, x);
+        return bisect(file, s, s.len(), 0, x);
     }
     let k = key_at(file, s, last);
     if equal(k, x) {
         return last;
     }
     if !less(k, x) {
-        return bisect(file, s, x);
+        return bisect(file, s, last, k.hi, x);
     }
     let next = next_of(file, s, last);
     if next >= s.len() {
@@ -195,5 +207,5 @@ pub fn first_from(file: u64, s: &[u8], last: usize, x: Key) -> usize
     if !less(key_at(file, s, next), x) {
         return next;
     }
-    bisect(file, s, x)
+    bisect(file, s, s.len(), 0, x)
 }

@@ -48,6 +48,7 @@ module _ {A : Type 0} where
   all-then keeps then f [] h = tt
   all-then keeps then f (a ∷ rest) h = (f a (h .0), all-then keeps then f rest (h .1))
 
+  -- what each keeps of two things, each keeps together
   pub all-both : (keeps more : A → Type 0) (l : List A) → All keeps l → All more l → All (λ a. keeps a × more a) l
   unfolding All
   all-both keeps more [] h i = tt
@@ -59,12 +60,13 @@ module _ {A : Type 0} where
   in-between [] x rest = inl refl
   in-between (a ∷ before) x rest = inr (in-between before x rest)
 
-  -- those that pass a test
+  -- where each passes the test, all are selected
   pub select-all : (test : A → Bool) (l : List A) → All (λ a. test a ≡ true) l → select test l ≡ l
   unfolding All select
   select-all test [] h = refl
   select-all test (a ∷ rest) h = rw (h .0) (ap (λ (l : List A). a ∷ l) (select-all test rest (h .1)))
 
+  -- where each fails it, none is
   pub select-none : (test : A → Bool) (l : List A) → All (λ a. test a ≡ false) l → select test l ≡ []
   unfolding All select
   select-none test [] h = refl
@@ -85,7 +87,7 @@ module _ {A : Type 0} where
       (λ t. rw (t, select-twice p q rest))
       (λ t. rw (t, select-twice p q rest))
 
-  -- each that is selected passes the test, and keeps what it kept
+  -- each that is selected passes the test
   pub select-pass : (test : A → Bool) (l : List A) → All (λ a. test a ≡ true) (select test l)
   unfolding All select
   select-pass test [] = tt
@@ -94,6 +96,7 @@ module _ {A : Type 0} where
       (λ t. rw t (t, select-pass test rest))
       (λ t. rw t (select-pass test rest))
 
+  -- and keeps what it kept
   pub all-select : (test : A → Bool) (keeps : A → Type 0) (l : List A) → All keeps l → All keeps (select test l)
   unfolding All select
   all-select test keeps [] h = tt
@@ -127,7 +130,7 @@ module _ {A : Type 0} where
       (λ u. clash (h a u) t)
       (λ u. rw (t, u) (first-select other p q h rest)))
 
-  -- the same backward
+  -- two lists backward: the second, then the first
   pub backward-append : (l m : List A) → backward (l ++ m) ≡ backward m ++ backward l
   unfolding backward
   backward-append [] m = sym (append-nil (backward m))
@@ -169,26 +172,29 @@ module _ {A : Type 0} where
   length-backward (a ∷ rest) = omega (arith, length-append (backward rest) (a ∷ []), length-backward rest)
 
 module _ {A : Type 0} (number : A → ℕ) where
-  -- numbers that never fall
+  -- no number is below n
   abbrev pub From : ℕ → List A → Type 0
   From n l = All (λ a. n ≤ number a) l
 
+  -- the numbers never fall
   unfoldable pub Sorted : List A → Type 0
   Sorted [] = Unit
   Sorted (a ∷ rest) = From (number a) rest × Sorted rest
 
-  -- numbers that strictly rise
+  -- every number is above n
   abbrev pub Beyond : ℕ → List A → Type 0
   Beyond n l = All (λ a. n < number a) l
 
+  -- the numbers strictly rise
   unfoldable pub Climbing : List A → Type 0
   Climbing [] = Unit
   Climbing (a ∷ rest) = Beyond (number a) rest × Climbing rest
 
-  -- numbers that are pairwise different
+  -- no number is n
   abbrev pub Unlike : ℕ → List A → Type 0
   Unlike n l = All (λ a. number a ≡ n → ⊥) l
 
+  -- the numbers are pairwise different
   unfoldable pub Apart : List A → Type 0
   Apart [] = Unit
   Apart (a ∷ rest) = Unlike (number a) rest × Apart rest
@@ -235,7 +241,7 @@ module _ {A : Type 0} (number : A → ℕ) where
   in-rising x (a ∷ rest) (inl e) = rw (← e) (in-insert-self a (rising number rest))
   in-rising x (a ∷ rest) (inr i) = in-insert x a (rising number rest) (in-rising x rest i)
 
-  -- by rising number the numbers never fall
+  -- one more among numbers that never fall
   insert-sorted : (a : A) (l : List A) → Sorted l → Sorted (insert number a l)
   unfolding All Sorted insert
   insert-sorted a [] s = (tt, tt)
@@ -248,12 +254,13 @@ module _ {A : Type 0} (number : A → ℕ) where
       let h = leb-false (number a) (number b) t in
       rw t (all-insert (λ c. number b ≤ number c) a bs (omega arith) (s .0), insert-sorted a bs (s .1)))
 
+  -- by rising number the numbers never fall
   pub rising-sorted : (l : List A) → Sorted (rising number l)
   unfolding Sorted rising
   rising-sorted [] = tt
   rising-sorted (a ∷ rest) = insert-sorted a (rising number rest) (rising-sorted rest)
 
-  -- where they are pairwise different, they strictly rise
+  -- one more among numbers that strictly rise, and unlike each
   insert-climbing : (a : A) (l : List A) → Unlike (number a) l → Climbing l → Climbing (insert number a l)
   unfolding All Climbing insert
   insert-climbing a [] u s = (tt, tt)
@@ -268,13 +275,14 @@ module _ {A : Type 0} (number : A → ℕ) where
       let h = leb-false (number a) (number b) t in
       rw t (all-insert (λ c. number b < number c) a bs h (s .0), insert-climbing a bs (u .1) (s .1)))
 
+  -- where they are pairwise different, they strictly rise
   pub rising-climbing : (l : List A) → Apart l → Climbing (rising number l)
   unfolding Climbing Apart rising
   rising-climbing [] u = tt
   rising-climbing (a ∷ rest) u =
       insert-climbing a (rising number rest) (all-rising (λ b. number b ≡ number a → ⊥) rest (u .0)) (rising-climbing rest (u .1))
 
-  -- the travel order holds each of the records once: as many pass any test
+  -- one more in its place counts as one more in front
   tally-insert : (test : A → Bool) (a : A) (l : List A) → tally test (insert number a l) ≡ tally test (a ∷ l)
   unfolding tally insert
   tally-insert test a [] = refl
@@ -283,11 +291,13 @@ module _ {A : Type 0} (number : A → ℕ) where
       (λ t. rw t)
       (λ t. rw (t, tally-insert test a bs) (count-swap (test b) (test a) (tally test bs)))
 
+  -- by rising number as many pass any test
   pub tally-rising : (test : A → Bool) (l : List A) → tally test (rising number l) ≡ tally test l
   unfolding tally rising
   tally-rising test [] = refl
   tally-rising test (a ∷ rest) = tally-insert test a (rising number rest) ∙ rw (tally-rising test rest)
 
+  -- the travel order holds each of the records once: as many pass any test
   pub tally-travel : (test : A → Bool) (trip : ℕ) (l : List A) → tally test (travel number trip l) ≡ tally test l
   unfolding travel
   tally-travel test trip l =
@@ -295,7 +305,6 @@ module _ {A : Type 0} (number : A → ℕ) where
       (λ t. rw t (tally-rising test l))
       (λ t. rw t (tally-backward test (rising number l) ∙ tally-rising test l))
 
-  -- and as many stand there
   length-insert : (a : A) (l : List A) → length (insert number a l) ≡ suc (length l)
   unfolding insert
   length-insert a [] = refl
@@ -304,11 +313,13 @@ module _ {A : Type 0} (number : A → ℕ) where
       (λ t. rw t)
       (λ t. rw t (ap suc (length-insert a bs)))
 
+  -- by rising number as many stand there
   pub length-rising : (l : List A) → length (rising number l) ≡ length l
   unfolding rising
   length-rising [] = refl
   length-rising (a ∷ rest) = length-insert a (rising number rest) ∙ ap suc (length-rising rest)
 
+  -- and so in travel order
   pub length-travel : (trip : ℕ) (l : List A) → length (travel number trip l) ≡ length l
   unfolding travel
   length-travel trip l =
@@ -316,7 +327,6 @@ module _ {A : Type 0} (number : A → ℕ) where
       (λ t. rw t (length-rising l))
       (λ t. rw t (length-backward (rising number l) ∙ length-rising l))
 
-  -- a test holds for one of them by rising number if it does for one of them
   some-insert : (test : A → Bool) (a : A) (l : List A) → some test (insert number a l) ≡ some test (a ∷ l)
   unfolding some insert
   some-insert test a [] = refl
@@ -325,6 +335,7 @@ module _ {A : Type 0} (number : A → ℕ) where
       (λ t. rw t)
       (λ t. rw (t, some-insert test a bs) (one-swap (test b) (test a) (some test bs)))
 
+  -- a test holds for one of them by rising number exactly if it does for one of them
   pub some-rising : (test : A → Bool) (l : List A) → some test (rising number l) ≡ some test l
   unfolding some rising
   some-rising test [] = refl
@@ -345,7 +356,7 @@ module _ {A : Type 0} (number : A → ℕ) where
       rw (t, eq-eqb (suc trip % 2) 1 z) (sym (backward-twice (rising number l))))
 
 module _ {A B : Type 0} (f : A → B) where
-  -- each as f has it, and those of these that pass a test
+  -- each as f has it, of those of which this passes a test
   pub each-select : (test : B → Bool) (l : List A) → each f (select (λ a. test (f a)) l) ≡ select test (each f l)
   unfolding each select
   each-select test [] = refl
@@ -365,12 +376,12 @@ module _ {A B : Type 0} (f : A → B) where
   each-backward [] = refl
   each-backward (a ∷ rest) = each-append (backward rest) (a ∷ []) ∙ rw (each-backward rest)
 
+  -- they are as many
   pub each-length : (l : List A) → length (each f l) ≡ length l
   unfolding each
   each-length [] = refl
   each-length (a ∷ rest) = ap suc (each-length rest)
 
-  -- by rising number
   each-insert : (number : B → ℕ) (a : A) (l : List A) → each f (insert (λ c. number (f c)) a l) ≡ insert number (f a) (each f l)
   unfolding each insert
   each-insert number a [] = refl
@@ -379,12 +390,13 @@ module _ {A B : Type 0} (f : A → B) where
       (λ t. rw t)
       (λ t. rw t (ap (λ (l : List B). f b ∷ l) (each-insert number a bs)))
 
+  -- by rising number: by that of what f makes of each
   pub each-rising : (number : B → ℕ) (l : List A) → each f (rising (λ a. number (f a)) l) ≡ rising number (each f l)
   unfolding each rising
   each-rising number [] = refl
   each-rising number (a ∷ rest) = each-insert number a (rising (λ c. number (f c)) rest) ∙ ap (insert number (f a)) (each-rising number rest)
 
-  -- in travel order
+  -- and so in travel order
   pub each-travel : (number : B → ℕ) (trip : ℕ) (l : List A) → each f (travel (λ a. number (f a)) trip l) ≡ travel number trip (each f l)
   unfolding travel
   each-travel number trip l =

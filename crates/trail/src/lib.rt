@@ -1,20 +1,23 @@
 // A trip's records one after another, by their numbers, and a record of one file by its key: each goes the way that was made out for its file.
+use field::value_of;
 use find::next_of_trip;
 use find::with_one;
 use find::with_two;
 use lookup::index_of;
 use previous::previous_of_trip;
 use walk::Found;
+use walk::part;
 ghost use mathlib.Core.Path.{_≡_};
 ghost use mathlib.Core.List.{[], _∷_};
 ghost use Prim.Native.Nat.{_≤_, _<_};
 ghost use lib.ListN.{length};
 ghost use Rattle.file.specs.Files.{fieldsOf};
 ghost use Rattle.file.specs.Records.{recordsIn};
-ghost use Rattle.keys.specs.Keys.{keyFields, none, firstWith};
+ghost use Rattle.keys.specs.Keys.{keyFields, none, third, firstWith};
 ghost use Rattle.keys.specs.KeyFiles.{PlaceIn};
 ghost use Rattle.lookup.specs.Ways.{Way, howOf, fromOf, toOf};
-ghost use Rattle.trail.specs.Trail.{stepOf, placeOf, Walks};
+ghost use Rattle.rules.specs.Texts.{texts, Kinded};
+ghost use Rattle.trail.specs.Trail.{stepOf, placeOf, after, Walks};
 
 // The place of a record, or the end of the file.
 fn place_of(s: &[u8], found: Found) -> usize
@@ -53,6 +56,28 @@ pub fn along(
         s,
         previous_of_trip(file, s, ways[i] == 1, part, last, line, trip, x),
     )
+}
+
+// inner: the place of the trip's record behind the one that was cut, upward or downward; the end of the file if there is none
+pub fn onward(
+    file: u64,
+    s: &[u8],
+    places: &[usize; 14],
+    order: &[u32],
+    ways: &[usize],
+    at: usize,
+    up: bool,
+    line: u64,
+    trip: u64,
+) -> usize
+    requires { ⌜ Walks file (now s) (now order) (now ways) at × Kinded file (now s) (now places) × (line < none) × (trip < none) ⌝ }
+    ensures { λ r. ⌜ r ≡ placeOf (now (s .entry)) (stepOf file up line trip (after up (third file (texts file (now (s .entry)) (now (places .entry))))) (recordsIn (fieldsOf file) (now (s .entry)))) ⌝ }
+{
+    let number = value_of(part(s, places, 2));
+    if up {
+        return along(file, s, order, ways, at, up, line, trip, number + 1);
+    }
+    along(file, s, order, ways, at, up, line, trip, number)
 }
 
 // inner: the first record of a file whose key is one number

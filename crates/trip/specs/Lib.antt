@@ -4,3 +4,4 @@ pub mod View
 pub mod Stage
 pub mod Track
 pub mod Seen
+pub mod Ready

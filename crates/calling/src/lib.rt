@@ -1,0 +1,68 @@
+// A trip's stops: document 01, "A trip's stops". Its records are walked through in Zasspoje in travel order.
+use trail::along;
+use trail::onward;
+use trip::course;
+use walk::cut;
+ghost use mathlib.Core.Path.{_≡_};
+ghost use Prim.Native.Nat.{_<_};
+ghost use Rattle.file.specs.Files.{fieldsOf};
+ghost use Rattle.file.specs.Reader.{Classes};
+ghost use Rattle.file.specs.Records.{recordsIn};
+ghost use Rattle.field.specs.Names.{tripStopsFile};
+ghost use Rattle.keys.specs.Keys.{none};
+ghost use Rattle.keys.specs.KeyFiles.{PlaceIn};
+ghost use Rattle.trip.specs.Ready.{Ready};
+ghost use Rattle.trip.specs.Stops.{stopsFit};
+ghost use Rattle.calling.specs.Calling.{travelled, firstPlace};
+
+// What is wrong with a trip's stops, if anything, and where the last of them stands.
+pub struct Stops {
+    pub fit: bool,
+    pub last: usize,
+}
+
+// Where the walk in travel order begins.
+fn first_of(f8: &[u8], order: &[u32], ways: &[usize], last: usize, line: u64, trip: u64) -> usize
+    requires { ⌜ Ready tripStopsFile (now f8) (now order) (now ways) × PlaceIn tripStopsFile (now f8) last × (line < none) × (trip < none) ⌝ }
+    ensures { λ r. ⌜ r ≡ firstPlace (now (f8 .entry)) line trip ⌝ }
+{
+    if trip % 2 == 1 {
+        return along(8, f8, order, ways, last, true, line, trip, 0);
+    }
+    along(8, f8, order, ways, last, false, line, trip, 1000000000)
+}
+
+// inner: whether a trip isn't refused with 11, and where the last of its stops stands
+pub fn stops_fit(
+    f8: &[u8],
+    order: &[u32],
+    ways: &[usize],
+    last: usize,
+    line: u64,
+    trip: u64,
+    class: &[u8; 256],
+) -> Stops
+    requires { ⌜ Ready tripStopsFile (now f8) (now order) (now ways) × PlaceIn tripStopsFile (now f8) last × (line < none) × (trip < none) × Classes (now class) ⌝ }
+    ensures { λ r. ⌜ (r .fit ≡ stopsFit (travelled line trip (recordsIn (fieldsOf tripStopsFile) (now (f8 .entry))))) × PlaceIn tripStopsFile (now (f8 .entry)) (r .last) ⌝ }
+{
+    let up = trip % 2 == 1;
+    let mut places: [usize; 14] = [0; 14];
+    let mut c = course::set_out();
+    let mut time: u64 = 0;
+    let mut length: u64 = 0;
+    let mut near = last;
+    let mut at = first_of(f8, order, ways, last, line, trip);
+    while at < f8.len() {
+        cut(f8, at, 10, class, &mut places);
+        let v = course::visit_of(f8, &places);
+        c = course::track_on(c, v);
+        time = course::time_on(time, v);
+        length = course::length_on(length, v);
+        near = at;
+        at = onward(8, f8, &places, order, ways, at, up, line, trip);
+    }
+    Stops {
+        fit: course::course_ends(c, time, length),
+        last: near,
+    }
+}

@@ -1,0 +1,27 @@
+-- What is asked of one file of a batch, where records of a trip are looked for in it: it is legal, its records are of their kinds and meet their
+-- rules, no two have one key, and the way to them was made out.
+use Prim.Native.Nat.{ℕ, _≤_}
+use mathlib.Core.Path.{_≡_}
+use mathlib.Core.List.{List, [], _∷_}
+use lib.ListN.{length}
+use Rattle.file.specs.Files.{fieldsOf}
+use Rattle.file.specs.Format.{Fields}
+use Rattle.file.specs.Records.{recordsIn}
+use Rattle.field.specs.Stage.{firstUnkind}
+use Rattle.keys.specs.KeyFiles.{KeyFile}
+use Rattle.lookup.specs.Ways.{Way, howOf, fromOf, toOf}
+use Rattle.trail.specs.Trail.{Once}
+use Rattle.trip.specs.Seen.{AllMeet}
+
+-- no field of these records is of another kind than its own
+unfoldable pub AllKind : ℕ → List Fields → Type 0
+AllKind file [] = Unit
+AllKind file (r ∷ rs) = (firstUnkind file 1 r ≡ 0) × AllKind file rs
+
+pub record Ready (file : ℕ) (s order ways : List ℕ) : Type 0 where
+  pub key : KeyFile file s
+  pub kinds : AllKind file (recordsIn (fieldsOf file) s)
+  pub rules : AllMeet file (recordsIn (fieldsOf file) s)
+  pub once : Once file (recordsIn (fieldsOf file) s)
+  pub size : 33 ≤ length ways
+  pub way : Way file s order (howOf ways file) (fromOf ways file) (toOf ways file)

@@ -1,0 +1,106 @@
+// The first trip of a batch, in Spoje order, whose days or stops are wrong: refusals 10 and 11.
+use calling::stops_fit;
+use field::value_of;
+use running::days_fit;
+use walk::cut;
+use walk::part;
+ghost use mathlib.Core.Path.{_≡_};
+ghost use Rattle.file.specs.Files.{fieldsOf};
+ghost use Rattle.file.specs.Reader.{Classes};
+ghost use Rattle.file.specs.Records.{recordsIn};
+ghost use Rattle.field.specs.Names.{timeCodesFile, tripStopsFile};
+ghost use Rattle.keys.specs.KeyFiles.{PlaceIn};
+ghost use Rattle.link.specs.Signs.{codesFile};
+ghost use Rattle.rules.specs.Texts.{texts, Kinded};
+ghost use Rattle.trip.specs.Ready.{Ready};
+ghost use Rattle.trip.specs.Stage.{tripsFile};
+ghost use Rattle.trips.specs.Answers.{numberedTimed};
+ghost use Rattle.trips.specs.Plain.{plainFault, plainFrom};
+
+// What the stage finds.
+pub enum Timed {
+    // Nothing.
+    Sound,
+    // The record of a trip whose days are wrong.
+    Days(u64),
+    // The record of a trip whose stops are wrong.
+    Stops(u64),
+}
+
+// What is wrong with a trip, 10, 11 or 0, and where its last time code and its last stop stand.
+struct Tried {
+    fault: u64,
+    code: usize,
+    stop: usize,
+}
+
+// What is wrong with the trip whose record was cut.
+fn trip_fault(
+    f6: &[u8],
+    places: &[usize; 14],
+    f3: &[u8],
+    f8: &[u8],
+    f10: &[u8],
+    order: &[u32],
+    ways: &[usize],
+    code: usize,
+    stop: usize,
+    class: &[u8; 256],
+) -> Tried
+    requires { ⌜ Kinded tripsFile (now f6) (now places) × Ready codesFile (now f3) (now order) (now ways) × Ready tripStopsFile (now f8) (now order) (now ways) × Ready timeCodesFile (now f10) (now order) (now ways) × PlaceIn timeCodesFile (now f10) code × PlaceIn tripStopsFile (now f8) stop × Classes (now class) ⌝ }
+    ensures { λ r. ⌜ (r .fault ≡ plainFault (recordsIn (fieldsOf codesFile) (now (f3 .entry))) (recordsIn (fieldsOf tripStopsFile) (now (f8 .entry))) (recordsIn (fieldsOf timeCodesFile) (now (f10 .entry))) (texts tripsFile (now (f6 .entry)) (now (places .entry)))) × PlaceIn timeCodesFile (now (f10 .entry)) (r .code) × PlaceIn tripStopsFile (now (f8 .entry)) (r .stop) ⌝ }
+{
+    let line = value_of(part(f6, places, 0));
+    let trip = value_of(part(f6, places, 1));
+    let d = days_fit(f6, places, line, trip, f3, f10, order, ways, code, class);
+    if !d.fit {
+        return Tried {
+            fault: 10,
+            code: d.last,
+            stop: stop,
+        };
+    }
+    let s = stops_fit(f8, order, ways, stop, line, trip, class);
+    let fault = if s.fit { 0 } else { 11 };
+    Tried {
+        fault: fault,
+        code: d.last,
+        stop: s.last,
+    }
+}
+
+// inner: the first trip whose days or stops are wrong, 10 before 11 trip by trip. Of the batch's files, Pevnykod, Spoje, Zasspoje and Caskody are
+// asked for.
+pub fn trips_fault(
+    f3: &[u8],
+    f6: &[u8],
+    f8: &[u8],
+    f10: &[u8],
+    order: &[u32],
+    ways: &[usize],
+    class: &[u8; 256],
+) -> Timed
+    requires { ⌜ Ready codesFile (now f3) (now order) (now ways) × Ready tripsFile (now f6) (now order) (now ways) × Ready tripStopsFile (now f8) (now order) (now ways) × Ready timeCodesFile (now f10) (now order) (now ways) × Classes (now class) ⌝ }
+    ensures { λ r. ⌜ numberedTimed r ≡ plainFrom (recordsIn (fieldsOf codesFile) (now (f3 .entry))) (recordsIn (fieldsOf tripStopsFile) (now (f8 .entry))) (recordsIn (fieldsOf timeCodesFile) (now (f10 .entry))) 1 (recordsIn (fieldsOf tripsFile) (now (f6 .entry))) ⌝ }
+{
+    let mut places: [usize; 14] = [0; 14];
+    let mut k: u64 = 1;
+    let mut at: usize = 0;
+    let mut code: usize = 0;
+    let mut stop: usize = 0;
+    while at < f6.len() {
+        let next = cut(f6, at, 12, class, &mut places);
+        let t = trip_fault(f6, &places, f3, f8, f10, order, ways, code, stop, class);
+        if t.fault == 10 {
+            return Timed::Days(k);
+        }
+        if t.fault == 11 {
+            return Timed::Stops(k);
+        }
+        code = t.code;
+        stop = t.stop;
+        k += 1;
+        at = next;
+    }
+    Timed::Sound
+}

@@ -1,13 +1,13 @@
 -- The record of a trip that is the one before some number in key order: the greatest third number as a pass over the records finds it, and
 -- as the record with the greatest rank below some rank shows it.
 use mathlib.Core.Path.{_≡_, refl, sym, ap, _∙_}
-use mathlib.Core.Bool.{Bool, true, false}
+use mathlib.Core.Bool.{true, false}
 use mathlib.Core.List.{List, [], _∷_, _++_}
 use Prim.Native.Nat.{ℕ, _+_, _*_, _-_, _≤_, _<_}
 use native.Mathlib.Omega.{arith}
 use lib.Dec.{eqb, ltb, leb}
 use lib.ListN.{length, getD}
-use borrow.Author.Tests.{eq-eqb, ne-eqb, eqb-true, eqb-false, lt-ltb, le-ltb, ltb-true, ltb-false, leb-true, leb-false}
+use borrow.Author.Tests.{eq-eqb, ne-eqb, eqb-true, eqb-false, lt-ltb, ltb-true, ltb-false, leb-true, leb-false}
 use Rattle.laws.specs.Tests.{pick, both, either, clash, both-left, both-right}
 use Rattle.file.specs.Files.{fieldsOf}
 use Rattle.file.specs.Format.{Fields, writtenRecord, written}
@@ -20,7 +20,7 @@ use Rattle.lines.proofs.LineLaws.{size-cons, place-start, next-line, next-at}
 use Rattle.lines.proofs.OrderLaws.{hit-anywhere, from-place, from-rank, place-rising}
 use Rattle.lines.proofs.IndexLaws.{place-known, ranks-rise}
 use Rattle.keys.specs.Keys.{keyFields, none, ofTrip, third, firstWith}
-use Rattle.keys.specs.Ranks.{AllKeyed, rank, rankOf, rankKey, Numbers, KeyIs, recordAt}
+use Rattle.keys.specs.Ranks.{AllKeyed, rank, rankOf, Numbers, KeyIs, recordAt}
 use Rattle.keys.specs.KeyFiles.{KeyFile, KeysRise, PlaceIn, IsIndex, recordsFrom}
 use Rattle.keys.specs.declared.Key.{Key}
 use Rattle.keys.proofs.KeyLaws.{trip-of, of-trip, third-small, keyed-head, keyed-rest}
@@ -126,7 +126,7 @@ module _ (file line trip x : ℕ) where
   unfolding previousOf
   previous-nothing rs y e z = rw (eq-eqb (previousNumber file line trip x rs) 0 (sym e ∙ z))
 
-  previous-found : (rs : List Fields) (y : ℕ) → y ≡ previousNumber file line trip x rs → (y ≡ 0 → ⊥)
+  pub previous-found : (rs : List Fields) (y : ℕ) → y ≡ previousNumber file line trip x rs → (y ≡ 0 → ⊥)
       → previousOf file line trip x rs ≡ firstWith file (line ∷ trip ∷ (y - 1) ∷ []) 0 rs
   unfolding previousOf
   previous-found rs y e h = rw (ne-eqb (previousNumber file line trip x rs) 0 (λ z. h (e ∙ z)), ← e)

@@ -21,7 +21,7 @@ ghost use Rattle.find.specs.Find.{Asks};
 ghost use Rattle.previous.specs.Previous.{greater, previousNumber, previousOf};
 ghost use Rattle.previous.specs.Steps.{LineBefore, numberAt, withNumber};
 
-// The key of the trip's number x; for a number of ten digits that is the first key behind the trip.
+// The trip's key with the third number x; where x is above every number, the first key behind the trip.
 fn key_of(line: u64, trip: u64, x: u64) -> Key
     requires { ⌜ (line < none) × (trip < none) × (x ≤ none) ⌝ }
     ensures { λ k. ⌜ KeyIs ((line * none + trip) * none + x) k ⌝ }
@@ -76,7 +76,7 @@ fn among_rising(file: u64, s: &[u8], last: usize, line: u64, trip: u64, x: u64) 
     Found::At(before)
 }
 
-// One more than the trip's greatest third number below x, or 0, by an index: the entry before the first that isn't below x tells.
+// One more than the trip's greatest third number below x, or 0: by an index the entry before the first that isn't below x tells.
 fn number_by_index(file: u64, s: &[u8], order: &[u32], line: u64, trip: u64, x: u64) -> u64
     requires { ⌜ KeyFile file (now s) × (length (keyFields file) ≡ 3) × IsIndex file (now s) (now order) × (line < none) × (trip < none) × (x ≤ none) ⌝ }
     ensures { λ r. ⌜ r ≡ previousNumber file line trip x (recordsIn (fieldsOf file) (now (s .entry))) ⌝ }
@@ -120,7 +120,7 @@ fn number_by_search(file: u64, s: &[u8], line: u64, trip: u64, x: u64) -> u64
     most
 }
 
-// Of the records with the number the first: in an index, as in any order of records, several may have one key.
+// The trip's record with the number that is one less than y, for 0 none: of several with one key, which an index may name, the first.
 fn with_number(
     file: u64,
     s: &[u8],
@@ -140,7 +140,7 @@ fn with_number(
     with_three(file, s, rises, part, last, line, trip, y - 1)
 }
 
-// In whichever way serves.
+// The record in whichever way serves.
 fn previous_below(
     file: u64,
     s: &[u8],

@@ -1,15 +1,13 @@
 -- `previous::among_rising` meets its contract: the line before the first record that isn't below the trip's x has the greatest key below it.
-use mathlib.Core.Path.{_≡_, refl, sym, ap, _∙_}
-use Prim.Native.Nat.{ℕ, _+_, _*_, _<_}
+use mathlib.Core.Path.{refl, ap, _∙_}
+use Prim.Native.Nat.{ℕ, _<_}
 use native.Mathlib.Omega.{arith}
-use borrow.Author.Needs.{needs}
 use denote.Ref.{now}
 use Rattle.file.specs.Files.{fieldsOf}
 use Rattle.file.specs.Records.{recordsIn}
 use Rattle.lines.specs.Order.{firstFrom}
 use Rattle.lines.proofs.OrderLaws.{from-place}
-use Rattle.keys.specs.Keys.{none}
-use Rattle.keys.specs.Ranks.{rankOf, rankKey}
+use Rattle.keys.specs.Ranks.{rankOf}
 use Rattle.previous.proofs.LineBackLaws.{ended}
 use Rattle.previous.proofs.PreviousLaws.{previous-nothing, rising-trails, rising-first, number-none, trails-number, trails-place}
 use Rattle.previous.proofs.among_rising.Statement.{statement}

@@ -1,12 +1,11 @@
 -- `previous::number_by_index` meets its contract: the entry before the first that isn't below the trip's x tells the number, or there is none.
-use mathlib.Core.Path.{_≡_, _∙_}
+use mathlib.Core.Path.{_∙_}
 use Prim.Native.Nat.{_+_, _*_, _-_}
 use native.Mathlib.Omega.{arith}
 use borrow.Author.Needs.{needs}
 use lib.ListN.{getD}
 use denote.Ref.{now}
 use Rattle.keys.specs.Keys.{none}
-use Rattle.keys.specs.Ranks.{rankKey}
 use Rattle.hinted.specs.Hinted.{Lower}
 use Rattle.hinted.proofs.HintedLaws.{entry-place}
 use Rattle.previous.proofs.PreviousLaws.{index-trails, index-first, number-none, trails-number}

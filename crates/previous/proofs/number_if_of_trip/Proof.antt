@@ -1,5 +1,4 @@
 -- `previous::number_if_of_trip` meets its contract: the key's first two numbers are the trip's, or they are not.
-use native.Mathlib.Omega.{arith}
 use borrow.Author.Needs.{needs}
 use denote.Ref.{now}
 use Rattle.keys.proofs.KeyFileLaws.{key-here}

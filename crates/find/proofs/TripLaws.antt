@@ -31,7 +31,7 @@ use Rattle.find.specs.Find.{tripAt}
 use Rattle.find.proofs.FindLaws.{small-three}
 
 -- a key of three numbers is that of fields 1, 2 and 3
-three-fields : (file : ℕ) → IsKeyed file → length (keyFields file) ≡ 3 → keyFields file ≡ 1 ∷ 2 ∷ 3 ∷ []
+pub three-fields : (file : ℕ) → IsKeyed file → length (keyFields file) ≡ 3 → keyFields file ≡ 1 ∷ 2 ∷ 3 ∷ []
 three-fields file k e =
     let past : 8 ≤ file =
     either (ltb file 6)
@@ -77,14 +77,14 @@ lesser-swap t a b =
 -- The records of a trip by their keys, as the code holds them.
 module _ (file line trip : ℕ) (three : keyFields file ≡ 1 ∷ 2 ∷ 3 ∷ []) (small : trip < none)
     (r : Fields) (n : Numbers (keyFields file) r) (k : Key) (i : KeyIs (rankOf file r) k) where
-  key-of-trip : k .hi ≡ line * none + trip → ofTrip file line trip r ≡ true
+  pub key-of-trip : k .hi ≡ line * none + trip → ofTrip file line trip r ≡ true
   unfolding rankKey
   key-of-trip e =
       let g = i .rank in
       let l = i .low in
       of-trip file line trip r three n small (omega arith) (omega arith)
 
-  key-not-of-trip : (k .hi ≡ line * none + trip → ⊥) → ofTrip file line trip r ≡ false
+  pub key-not-of-trip : (k .hi ≡ line * none + trip → ⊥) → ofTrip file line trip r ≡ false
   unfolding rankKey
   key-not-of-trip e =
       either (ofTrip file line trip r)
@@ -93,7 +93,7 @@ module _ (file line trip : ℕ) (three : keyFields file ≡ 1 ∷ 2 ∷ 3 ∷ []
       absurd (e z))
       (λ t. t)
 
-  key-third : ofTrip file line trip r ≡ true → k .lo ≡ third file r
+  pub key-third : ofTrip file line trip r ≡ true → k .lo ≡ third file r
   unfolding rankKey
   key-third t = omega (arith, i .rank, i .low, trip-of file line trip r three t, third-small file r n)
 
@@ -234,7 +234,7 @@ module _ (file : ℕ) (s : List ℕ) (at : ℕ) (r : Fields) (rs : List Fields) 
   onward = place-on (fieldsOf file) s at p (r ∷ []) rs e (at + length (writtenRecord r)) (omega (arith, size-one r))
 
 -- by what is known of each place
-from-places : (file : ℕ) (s : List ℕ) (x m : ℕ)
+pub from-places : (file : ℕ) (s : List ℕ) (x m : ℕ)
     → ((y : ℕ) → PlaceIn file s y → y < length s → x ≤ rankOf file (recordAt file s y) → m ≤ rankOf file (recordAt file s y))
     → (at : ℕ) (rs : List Fields) → PlaceIn file s at → recordsFrom file s at ≡ rs → From file x m rs
 unfolding From
@@ -244,7 +244,7 @@ from-places file s x m all at (r ∷ rs) p e =
     (rw e at (all at p (within file s at r rs p e)), from-places file s x m all (at + length (writtenRecord r)) rs (w .place) (w .left))
 
 -- by ranks that rise
-above-from : (file x m k : ℕ) (rs : List Fields) → m ≤ k → Above (rankOf file) k rs → From file x m rs
+pub above-from : (file x m k : ℕ) (rs : List Fields) → m ≤ k → Above (rankOf file) k rs → From file x m rs
 unfolding From Above
 above-from file x m k [] h a = tt
 above-from file x m k (r ∷ rs) h a = (λ g. omega arith, above-from file x m k rs h (a .1))

@@ -1,0 +1,2 @@
+pub mod LineBackLaws
+pub mod PreviousLaws

@@ -1,1 +1,2 @@
 pub mod Previous
+pub mod Steps

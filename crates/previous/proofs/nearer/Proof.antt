@@ -1,0 +1,16 @@
+-- `previous::nearer` meets its contract.
+use borrow.Author.Needs.{needs}
+use Rattle.laws.specs.Tests.{tests}
+use Rattle.previous.proofs.nearer.Statement.{statement}
+use Rattle.previous.proofs.nearer.Tie as tie
+
+pub nearer-spec : {M : Type 1} → statement M
+nearer-spec =
+    tie.close
+    (tie.spec
+    (λ c. search tests)  -- returns
+    (λ c. search tests)  -- returns-2
+    (λ c. search needs)  -- add-if3
+    (λ c. search tests)  -- returns-3
+    (λ c. search needs)  -- add-result
+    (λ c. search tests))  -- returns-4

@@ -1,2 +1,4 @@
 pub mod ListLaws
 pub mod TrailLaws
+pub mod WalkLaws
+pub mod NumberLaws

@@ -1,2 +1,3 @@
 pub mod TrackLaws
 pub mod SeenLaws
+pub mod DayLaws

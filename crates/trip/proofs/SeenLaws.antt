@@ -237,6 +237,12 @@ mark-not-zero t e =
     let w = both-right (isDigits 2 2 t) (within 10 (value t) 79) e in
     ne-eqb (value t) 0 (λ z. omega (arith, leb-true 10 (value t) (both-left (leb 10 (value t)) (leb (value t) 79) w)))
 
+-- where the record at each place meets its rules, all do
+pub all-meet : (file : ℕ) (rs : List Fields) → ((i : ℕ) → i < length rs → meets file (getD rs i []) ≡ true) → AllMeet file rs
+unfolding AllMeet
+all-meet file [] m = tt
+all-meet file (r ∷ rs) m = (m 0 (omega arith), all-meet file rs (λ i h. m (suc i) (omega arith)))
+
 -- once two marks differ they do
 pub marks-true : (first : ℕ) (codes : List Fields) → marksDiffer first true codes ≡ true
 unfolding marksDiffer

@@ -6,7 +6,7 @@ use mathlib.Core.List.{List, [], _∷_}
 use Prim.Native.Nat.{ℕ, suc, _<_}
 use native.Mathlib.Omega.{arith}
 use lib.Dec.{eqb, leb, ltb}
-use lib.ListN.{length, List·getD-eq-default}
+use lib.ListN.{length, getD, List·getD-eq-default}
 use borrow.Author.Tests.{lt-ltb, le-ltb, le-leb, lt-leb, leb-true, leb-false, eqb-true, eq-eqb}
 use Rattle.laws.specs.Tests.{pick, both, oneOf, either, clash}
 use Rattle.file.specs.Format.{Text, Fields}
@@ -153,6 +153,12 @@ kinds-tame r e =
     (λ p.
     let z : kilometres r ≡ [] = List·getD-eq-default r [] (omega (arith, leb-false 8 (length r) p)) in
     no-text (kilometres r) (ap (λ (t : Text). length t) z))
+
+-- so it is in all of these, where each is of its kinds
+pub all-tame : (rs : List Fields) → ((i : ℕ) → i < length rs → firstUnkind tripStopsFile 1 (getD rs i []) ≡ 0) → AllTame rs
+unfolding AllTame
+all-tame [] k = tt
+all-tame (r ∷ rs) k = (kinds-tame r (k 0 (omega arith)), all-tame rs (λ i h. k (suc i) (omega arith)))
 
 length-keeps : (r : Fields) → value (kilometres r) < shrunk → lengthOn shrunk (visitOf r) ≡ shrunk
 unfolding lengthOn visitOf

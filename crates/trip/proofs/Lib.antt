@@ -1,0 +1,4 @@
+pub mod TrackLaws
+pub mod SeenLaws
+pub mod DayLaws
+pub mod StopLaws

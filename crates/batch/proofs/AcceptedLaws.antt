@@ -19,7 +19,7 @@ use Rattle.link.specs.Met.{Linking, Signed}
 use Rattle.link.specs.Stage.{linkFault, linksFault}
 use Rattle.link.proofs.LinkingLaws.{linked}
 use Rattle.link.proofs.SignedLaws.{signed}
-use Rattle.links.specs.Sound.{SoundFiles}
+use Rattle.amiss.specs.Sound.{SoundFiles}
 use Rattle.batch.specs.Legal.{LegalFiles}
 use Rattle.batch.specs.Order.{lengthFault, bytesFault, isVersion, versionFault, stages, firstFault, faultOf}
 use Rattle.batch.proofs.FileLaws.{legal-files, sound-files}

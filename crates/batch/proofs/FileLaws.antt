@@ -23,7 +23,7 @@ use Rattle.fields.specs.Check.{Ready, numberedChecked}
 use Rattle.fields.specs.declared.Checked.{Checked}
 use Rattle.fields.proofs.StageLaws.{fields-few}
 use Rattle.keys.specs.Keys.{same}
-use Rattle.links.specs.Sound.{SoundFiles}
+use Rattle.amiss.specs.Sound.{SoundFiles}
 use Rattle.thirteen.specs.Batch.{Batch, fileIn, recordsOf, overFiles}
 use Rattle.thirteen.proofs.OverLaws.{over-each}
 use Rattle.walk.specs.Walk.{LegalFrom}

@@ -11,7 +11,7 @@ ghost use Rattle.file.specs.Records.{recordsIn};
 ghost use Rattle.field.specs.Names.{tripStopsFile};
 ghost use Rattle.keys.specs.Keys.{none};
 ghost use Rattle.keys.specs.KeyFiles.{PlaceIn};
-ghost use Rattle.trip.specs.Ready.{Ready};
+ghost use Rattle.coded.specs.Ready.{Ready};
 ghost use Rattle.trip.specs.Stops.{stopsFit};
 ghost use Rattle.calling.specs.Calling.{travelled, firstPlace};
 

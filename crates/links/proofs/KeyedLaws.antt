@@ -12,8 +12,8 @@ use Rattle.link.proofs.KindOfLinks.{keyed-kinds}
 use Rattle.link.proofs.TableLaws.{record-length}
 use Rattle.lookup.specs.Ways.{KeyFiles}
 use Rattle.thirteen.specs.Batch.{Batch, fileIn, recordsOf}
-use Rattle.links.specs.Sound.{SoundFile, SoundFiles, AllOfKind}
-use Rattle.links.proofs.SoundLaws.{sound-kinds}
+use Rattle.amiss.specs.Sound.{SoundFile, SoundFiles, AllOfKind}
+use Rattle.amiss.proofs.SoundLaws.{sound-kinds}
 
 -- records of their kinds, with as many fields as their file's, have numbers in their keys
 kinds-keyed : (file : ℕ) (rs : List Fields) → AllOfKind file rs → ((i : ℕ) → i < length rs → length (getD rs i []) ≡ fieldsOf file) → AllKeyed file rs

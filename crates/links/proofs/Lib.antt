@@ -1,5 +1,2 @@
-pub mod SoundLaws
 pub mod KeyedLaws
-pub mod RecordLaws
-pub mod AmissLaws
 pub mod StageLaws

@@ -24,7 +24,7 @@ use Rattle.keys.specs.Ranks.{IsKeyed, recordAt}
 use Rattle.keys.specs.KeyFiles.{PlaceIn}
 use Rattle.keys.proofs.TableLaws.{one-of, key-fields}
 use Rattle.link.proofs.MatchLaws.{free-behind, links-few}
-use Rattle.links.proofs.AmissLaws.{free-amiss}
+use Rattle.amiss.proofs.AmissLaws.{free-amiss}
 use Rattle.link.specs.Links.{linksIn, links, zaslinky, linkOf, target, linkFields, reaches, met}
 use Rattle.link.specs.Signs.{signFits}
 use Rattle.link.specs.Stage.{isUsed, amiss, firstAmiss, fieldAmiss, recordFault, faultsFrom, linkFault, linksFault}
@@ -34,9 +34,9 @@ use Rattle.find.specs.Find.{Serves}
 use Rattle.lookup.specs.Ways.{Looks, Lasts, Way, howOf, fromOf, toOf, partOf, apart}
 use Rattle.thirteen.proofs.OverLaws.{over-next, over-stop, over-done}
 use Rattle.thirteen.specs.Batch.{Batch, fileIn, overFiles}
-use Rattle.links.specs.Sound.{SoundFiles, OfKind, StopsMet, Known, Record, UsedAsked, Used}
-use Rattle.links.proofs.SoundLaws.{sound-kinds}
-use Rattle.links.proofs.RecordLaws.{cut-kinded, later}
+use Rattle.amiss.specs.Sound.{SoundFiles, OfKind, StopsMet, Known, Record, UsedAsked, Used}
+use Rattle.amiss.proofs.SoundLaws.{sound-kinds}
+use Rattle.amiss.proofs.RecordLaws.{cut-kinded, later}
 
 -- The fields of a record from f on, of n in all.
 module _ (b : Batch) (file : ℕ) (r : Fields) (f n : ℕ) where

@@ -1,34 +1,28 @@
 // A trip's days: document 01, "Days". Its record of Spoje was cut; its time codes are walked through in Caskody, and the signs of its codes are
 // looked up in Pevnykod.
 use calendar::signs;
-use field::value_of;
-use links::sign_at;
+use coded::code_sign;
 use trail::along;
-use trail::by_one;
 use trail::onward;
 use trip::codes;
-use walk::Found;
 use walk::cut;
-use walk::part;
 ghost use mathlib.Core.Path.{_≡_};
 ghost use mathlib.Core.Bool.{true, false};
-ghost use mathlib.Core.List.{[]};
-ghost use Prim.Native.Nat.{_+_, _≤_, _<_};
+ghost use Prim.Native.Nat.{_≤_, _<_};
 ghost use lib.ListN.{length};
-ghost use Rattle.laws.specs.Tests.{pick, oneOf};
+ghost use Rattle.laws.specs.Tests.{oneOf};
 ghost use Rattle.file.specs.Files.{fieldsOf};
 ghost use Rattle.file.specs.Reader.{Classes};
 ghost use Rattle.file.specs.Records.{recordsIn};
-ghost use Rattle.field.specs.Names.{field, timeCodesFile};
+ghost use Rattle.field.specs.Names.{timeCodesFile};
 ghost use Rattle.field.specs.Rules.{meets};
-ghost use Rattle.field.specs.Values.{isEmpty, value};
 ghost use Rattle.keys.specs.Keys.{none};
 ghost use Rattle.keys.specs.KeyFiles.{PlaceIn};
 ghost use Rattle.link.specs.Signs.{signIn, codesFile};
 ghost use Rattle.rules.specs.Texts.{texts, Kinded};
+ghost use Rattle.coded.specs.Ready.{Ready};
 ghost use Rattle.trail.specs.Trail.{upward};
 ghost use Rattle.trip.specs.Days.{typeOf, hasDaySign, daysFit, signsAllow, codesAllow};
-ghost use Rattle.trip.specs.Ready.{Ready};
 ghost use Rattle.trip.specs.Seen.{seenBehind, heldBehind, firstMark, differsFrom, marksDiffer};
 ghost use Rattle.trip.specs.Stage.{tripsFile};
 ghost use Rattle.trip.specs.View.{signsFrom};
@@ -45,37 +39,6 @@ pub struct Days {
     pub last: usize,
 }
 
-// The sign of a code number; 0 if no record has it.
-fn sign_in(c: u64, f3: &[u8], order: &[u32], ways: &[usize], class: &[u8; 256]) -> u8
-    requires { ⌜ (c < none) × Ready codesFile (now f3) (now order) (now ways) × Classes (now class) ⌝ }
-    ensures { λ r. ⌜ r ≡ signIn (recordsIn (fieldsOf codesFile) (now (f3 .entry))) c ⌝ }
-{
-    match by_one(3, f3, order, ways, 0, c) {
-        Found::At(at) => sign_at(f3, at, class),
-        Found::Nothing => 0,
-    }
-}
-
-// The sign of the code in text i of a trip's record; 0, which is no sign, if it is empty.
-fn code_sign(
-    f6: &[u8],
-    places: &[usize; 14],
-    i: usize,
-    f3: &[u8],
-    order: &[u32],
-    ways: &[usize],
-    class: &[u8; 256],
-) -> u8
-    requires { ⌜ Kinded tripsFile (now f6) (now places) × (2 ≤ i) × (i < 12) × Ready codesFile (now f3) (now order) (now ways) × Classes (now class) ⌝ }
-    ensures { λ r. ⌜ r ≡ pick (isEmpty (field (i + 1) (texts tripsFile (now (f6 .entry)) (now (places .entry))))) 0 (signIn (recordsIn (fieldsOf codesFile) (now (f3 .entry))) (value (field (i + 1) (texts tripsFile (now (f6 .entry)) (now (places .entry)))))) ⌝ }
-{
-    let text = part(f6, places, i);
-    if text.len() == 0 {
-        return 0;
-    }
-    sign_in(value_of(text), f3, order, ways, class)
-}
-
 // Whether one of a trip's codes is a day sign.
 fn has_day_sign(
     f6: &[u8],
@@ -90,7 +53,7 @@ fn has_day_sign(
 {
     let mut i: usize = 2;
     while i < 12 {
-        if signs::is_day_sign(code_sign(f6, places, i, f3, order, ways, class)) {
+        if signs::is_day_sign(code_sign(6, f6, places, i, f3, order, ways, class)) {
             return true;
         }
         i += 1;
@@ -230,7 +193,7 @@ fn signs_allow(
 {
     let mut i: usize = 2;
     while i < 12 {
-        let sign = code_sign(f6, places, i, f3, order, ways, class);
+        let sign = code_sign(6, f6, places, i, f3, order, ways, class);
         if signs::sign_fits(sign, d, holidays) {
             return true;
         }

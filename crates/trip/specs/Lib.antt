@@ -4,4 +4,3 @@ pub mod View
 pub mod Stage
 pub mod Track
 pub mod Seen
-pub mod Ready

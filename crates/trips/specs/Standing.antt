@@ -2,7 +2,7 @@
 use mathlib.Core.Path.{_≡_}
 use mathlib.Core.List.{[]}
 use Rattle.laws.specs.Numbered.{answered}
-use Rattle.links.specs.Sound.{SoundFiles}
+use Rattle.amiss.specs.Sound.{SoundFiles}
 use Rattle.link.specs.Met.{Linking, Signed}
 use Rattle.thirteen.specs.Batch.{Batch}
 use Rattle.trip.specs.Stage.{tripsFault}

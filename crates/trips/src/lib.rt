@@ -12,7 +12,7 @@ ghost use Rattle.field.specs.Names.{timeCodesFile, tripStopsFile};
 ghost use Rattle.keys.specs.KeyFiles.{PlaceIn};
 ghost use Rattle.link.specs.Signs.{codesFile};
 ghost use Rattle.rules.specs.Texts.{texts, Kinded};
-ghost use Rattle.trip.specs.Ready.{Ready};
+ghost use Rattle.coded.specs.Ready.{Ready};
 ghost use Rattle.trip.specs.Stage.{tripsFile};
 ghost use Rattle.trips.specs.Answers.{numberedTimed};
 ghost use Rattle.trips.specs.Plain.{plainFault, plainFrom};

@@ -6,7 +6,7 @@ use borrow.Author.Needs.{needs}
 use denote.Ref.{now}
 use Rattle.link.specs.Stage.{linksFault, numberedLinked}
 use Rattle.link.specs.declared.Linked.{Linked}
-use Rattle.links.specs.Sound.{SoundFiles}
+use Rattle.amiss.specs.Sound.{SoundFiles}
 use Rattle.thirteen.specs.Batch.{Batch, thirteen}
 use Rattle.batch.specs.Answers.{numberedFault}
 use Rattle.batch.specs.Order.{stages, firstFault, faultOf}

@@ -1,0 +1,3 @@
+pub mod SoundLaws
+pub mod RecordLaws
+pub mod AmissLaws

@@ -2,23 +2,22 @@
 // signs are permitted where, stands in the crate `link`, and what is wrong with one field in `amiss`; here the batch's files are gone through in
 // document 01's order: files 2-13, record by record: the key, then fields rising, at one field 8 before 9.
 use amiss::amiss_at;
-use file::classes;
 use file::fields_of;
 use find::used_before;
 use link::Linked;
 use link::links_in;
 use lookup::index_of;
-use lookup::survey;
 use thirteen::file_of;
 use walk::cut;
 ghost use mathlib.Core.Path.{_≡_};
 ghost use Prim.Native.Nat.{_≤_};
 ghost use lib.Dec.{eqb};
+ghost use lib.ListN.{length};
 ghost use Rattle.laws.specs.Numbered.{refusedIn};
 ghost use Rattle.file.specs.Reader.{Classes};
 ghost use Rattle.rules.specs.Texts.{texts};
 ghost use Rattle.link.specs.Stage.{amiss, fieldAmiss, linkFault, linksFault, numberedLinked};
-ghost use Rattle.lookup.specs.Ways.{Looks, Lasts};
+ghost use Rattle.lookup.specs.Ways.{Ways, Looks, Lasts};
 ghost use Rattle.thirteen.specs.Batch.{thirteen};
 ghost use Rattle.amiss.specs.Sound.{SoundFiles, Known, Record, UsedAsked, Used};
 
@@ -313,7 +312,8 @@ fn files_fault<'a>(
     Linked::Sound
 }
 
-// inner: the first 7, 8 or 9 of a batch whose files stand each for itself. `order` is a hint that may hold anything: no answer depends on it.
+// inner: the first 7, 8 or 9 of a batch whose files stand each for itself. `order` is a hint that may hold anything, and the ways were made out by it:
+// no answer depends on them.
 pub fn links_fault<'a>(
     f1: &'a [u8],
     f2: &'a [u8],
@@ -329,32 +329,15 @@ pub fn links_fault<'a>(
     f12: &'a [u8],
     f13: &'a [u8],
     order: &[u32],
+    ways: &[usize],
+    class: &[u8; 256],
 ) -> Linked
-    requires { ⌜ SoundFiles (thirteen (now f1) (now f2) (now f3) (now f4) (now f5) (now f6) (now f7) (now f8) (now f9) (now f10) (now f11) (now f12) (now f13)) ⌝ }
+    requires { ⌜ SoundFiles (thirteen (now f1) (now f2) (now f3) (now f4) (now f5) (now f6) (now f7) (now f8) (now f9) (now f10) (now f11) (now f12) (now f13)) × (33 ≤ length (now ways)) × Ways (thirteen (now f1) (now f2) (now f3) (now f4) (now f5) (now f6) (now f7) (now f8) (now f9) (now f10) (now f11) (now f12) (now f13)) (now order) (now ways) × Classes (now class) ⌝ }
     ensures { λ r. ⌜ numberedLinked r ≡ linksFault (thirteen (now (f1 .entry)) (now (f2 .entry)) (now (f3 .entry)) (now (f4 .entry)) (now (f5 .entry)) (now (f6 .entry)) (now (f7 .entry)) (now (f8 .entry)) (now (f9 .entry)) (now (f10 .entry)) (now (f11 .entry)) (now (f12 .entry)) (now (f13 .entry))) ⌝ }
 {
-    let class = classes();
-    let mut ways: [usize; 33] = [0; 33];
     let mut last: [usize; 11] = [0; 11];
-    survey(
-        f1,
-        f2,
-        f3,
-        f4,
-        f5,
-        f6,
-        f7,
-        f8,
-        f9,
-        f10,
-        f11,
-        f12,
-        f13,
-        order,
-        &mut ways,
-    );
     files_fault(
-        &class,
+        class,
         f1,
         f2,
         f3,
@@ -369,7 +352,7 @@ pub fn links_fault<'a>(
         f12,
         f13,
         order,
-        &ways,
+        ways,
         &mut last,
     )
 }

@@ -24,7 +24,6 @@ use Rattle.trip.specs.View.{
   tripSigns,
   lineStopSigns,
   tripStopSigns,
-  View,
   ofLine,
   ownRecords,
   withSigns,

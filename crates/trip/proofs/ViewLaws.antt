@@ -2,15 +2,25 @@
 use mathlib.Core.Path.{_≡_, refl, sym, ap, _∙_}
 use mathlib.Core.Bool.{Bool, true, false}
 use mathlib.Core.List.{List, [], _∷_, _++_}
-use Prim.Native.Nat.{ℕ}
+use Prim.Native.Nat.{ℕ, _+_}
+use native.Mathlib.Omega.{arith}
 use lib.Dec.{eqb}
+use lib.ListN.{length}
 use Rattle.laws.specs.Tests.{pick, both, either, clash}
-use Rattle.file.specs.Format.{Fields}
-use Rattle.keys.specs.Keys.{keyTable, keyFields, numbers, keyOf, same, has, ofTrip, third}
+use Rattle.file.specs.Files.{fieldsOf}
+use Rattle.file.specs.Format.{Fields, writtenRecord}
+use Rattle.file.specs.Records.{recordsIn}
+use Rattle.walk.specs.Walk.{LegalFrom}
+use Rattle.walk.specs.declared.Found.{Found}
+use Rattle.walk.specs.declared.Found.the-variants.{At, Nothing}
+use Rattle.lines.proofs.LineLaws.{size-one, place-on, place-start}
+use Rattle.keys.specs.Keys.{keyTable, keyFields, numbers, keyOf, same, has, firstWith, ofTrip, third}
+use Rattle.keys.specs.Ranks.{recordAt}
+use Rattle.keys.specs.KeyFiles.{PlaceIn, recordsFrom}
 use Rattle.keys.proofs.KeyLaws.{same-self, same-equal}
 use Rattle.link.specs.Met.{number}
 use Rattle.link.proofs.HasLaws.{one-left, one-right}
-use Rattle.thirteen.specs.Batch.{Batch, recordsOf}
+use Rattle.thirteen.specs.Batch.{Batch, fileIn, recordsOf}
 use Rattle.trail.specs.Lists.{select, firstOr, each, rising, travel}
 use Rattle.trail.specs.Trail.{upward, Once}
 use Rattle.trail.proofs.ListLaws.{select-same, select-twice, each-select, each-travel}
@@ -188,7 +198,59 @@ first-once file (a ∷ past) r rest o =
     clash d (has-not file (keyOf file a) past r rest (o .0)))
     (λ t. rw t (first-once file past r rest (o .1)))
 
--- a key of two numbers
+-- A record found by its key: the place where it is, or one beside p where there is none.
+abbrev at-place : ℕ → Found → ℕ
+at-place p (At at) = at
+at-place p Nothing = p + 1
+
+module _ (file : ℕ) (s k : List ℕ) (p : ℕ) where
+  first-from : (at : ℕ) (rs : List Fields) → PlaceIn file s at → recordsFrom file s at ≡ rs → firstWith file k at rs ≡ At p
+      → firstOr [] (λ q. same (keyOf file q) k) rs ≡ recordAt file s p
+  unfolding firstOr firstWith
+  first-from at [] h e d =
+      let z : p + 1 ≡ p = ap (at-place p) d in
+      absurd (omega arith)
+  first-from at (r ∷ rs) h e d =
+      either (same (keyOf file r) k)
+      (λ t.
+      let c : At at ≡ At p = rw t at d in
+      let z : at ≡ p = ap (at-place p) c in
+      rw (t, ← z, e))
+      (λ t.
+      let w = place-on (fieldsOf file) s at h (r ∷ []) rs e (at + length (writtenRecord r)) (omega (arith, size-one r)) in
+      rw t (first-from (at + length (writtenRecord r)) rs (w .place) (w .left) (rw t at d)))
+
+  -- the first record with a key, where it is found at a place, is the record that starts there
+  pub first-found : LegalFrom (fieldsOf file) s 0 → firstWith file k 0 (recordsIn (fieldsOf file) s) ≡ At p
+      → firstOr [] (λ q. same (keyOf file q) k) (recordsIn (fieldsOf file) s) ≡ recordAt file s p
+  first-found l d = first-from 0 (recordsIn (fieldsOf file) s) (place-start (fieldsOf file) s l) refl d
+
+-- a key of two numbers is found by fields 1 and 2
+found-fields : (line trip : ℕ) (q : Fields) → both (eqb (number 1 q) line) (eqb (number 2 q) trip) ≡ same (keyOf 6 q) (line ∷ trip ∷ [])
+unfolding keyFields keyTable numbers same
+found-fields line trip q = both-held (eqb (number 1 q) line) (eqb (number 2 q) trip)
+
+-- a Spoje record that is found by its line and number is the view's trip of that number, with its signs
+pub view-trip-found : (b : Batch) (line trip p : ℕ) → LegalFrom (fieldsOf 6) (fileIn b 6) 0 → firstWith 6 (line ∷ trip ∷ []) 0 (recordsOf b 6) ≡ At p
+    → (r : Fields) → r ≡ recordAt 6 (fileIn b 6) p → tripOf (viewOf b line) trip ≡ record { texts = r; signs = tripSigns b r }
+view-trip-found b line trip p l d r e =
+    view-trip-first b line trip r
+    (e
+    ∙ sym (first-found 6 (fileIn b 6) (line ∷ trip ∷ []) p l d)
+    ∙ sym (first-same [] (λ q. both (eqb (number 1 q) line) (eqb (number 2 q) trip)) (λ q. same (keyOf 6 q) (line ∷ trip ∷ [])) (found-fields line trip) (recordsOf b 6)))
+
+-- a Zaslinky record that is found by its line and tariff number is the view's stop of that number, with its signs
+pub view-line-stop-found : (b : Batch) (line tariff p : ℕ) → LegalFrom (fieldsOf 7) (fileIn b 7) 0
+    → firstWith 7 (line ∷ tariff ∷ []) 0 (recordsOf b 7) ≡ At p → (r : Fields) → r ≡ recordAt 7 (fileIn b 7) p
+    → lineStopOf (viewOf b line) tariff ≡ record { texts = r; signs = lineStopSigns b r }
+unfolding keyFields keyTable
+view-line-stop-found b line tariff p l d r e =
+    view-line-stop b line tariff r
+    (e
+    ∙ sym (first-found 7 (fileIn b 7) (line ∷ tariff ∷ []) p l d)
+    ∙ sym (first-same [] (λ q. both (eqb (number 1 q) line) (eqb (number 2 q) tariff)) (λ q. same (keyOf 7 q) (line ∷ tariff ∷ [])) (found-fields line tariff) (recordsOf b 7)))
+
+-- the key of a Spoje record
 same-fields : (q r : Fields) → both (eqb (number 1 q) (number 1 r)) (eqb (number 2 q) (number 2 r)) ≡ same (keyOf 6 q) (keyOf 6 r)
 unfolding keyFields keyTable numbers same
 same-fields q r = both-held (eqb (number 1 q) (number 1 r)) (eqb (number 2 q) (number 2 r))

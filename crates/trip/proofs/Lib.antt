@@ -2,3 +2,5 @@ pub mod TrackLaws
 pub mod SeenLaws
 pub mod DayLaws
 pub mod StopLaws
+pub mod ViewLaws
+pub mod OtherLines

@@ -4,3 +4,4 @@ pub mod DayLaws
 pub mod StopLaws
 pub mod ViewLaws
 pub mod OtherLines
+pub mod LeafLaws

@@ -4,11 +4,12 @@ use field::day_of;
 use field::value_of;
 use walk::part;
 ghost use mathlib.Core.Path.{_≡_};
-ghost use mathlib.Core.Bool.{Bool, true, not};
+ghost use mathlib.Core.Bool.{true, not};
 ghost use mathlib.Core.List.{List};
 ghost use Prim.Native.Nat.{ℕ, _≤_};
 ghost use lib.Dec.{eqb};
 ghost use Rattle.laws.specs.Tests.{pick, both};
+ghost use Rattle.calendar.specs.Signs.{parityFits};
 ghost use Rattle.file.specs.Format.{Fields};
 ghost use Rattle.field.specs.Names.{timeCodesFile, mark};
 ghost use Rattle.field.specs.Rules.{meets};
@@ -103,27 +104,36 @@ pub fn days_fit(seen: &[u64], differ: bool, dated: bool) -> bool
     !dated
 }
 
+// What a type that a trip may have asks of day d: its week, and a period that holds d. `there` is 0 if the trip has none of that type, and `held` is 0
+// if a period is asked for and none holds d.
+fn type_allows(t: u64, d: u64, there: u64, held: u64) -> bool
+    requires { ⌜ d ≤ 73048 ⌝ }
+    ensures { λ r. ⌜ r ≡ pick (eqb there 0) true (both (parityFits t d) (not (eqb held 0))) ⌝ }
+{
+    if there == 0 {
+        return true;
+    }
+    if !signs::parity_fits(t, d) {
+        return false;
+    }
+    held != 0
+}
+
 // What the weeks of 5 to 8 ask of day d.
 fn weeks_allow(seen: &[u64], held: &[u64], d: u64) -> bool
     requires { ⌜ Flags (now seen) × Flags (now held) × (d ≤ 73048) ⌝ }
     ensures { λ r. ⌜ ((codes : List Fields) → Seen codes (now (seen .entry)) → Held d codes (now (held .entry)) → r ≡ weeksAllow codes d) ⌝ }
 {
-    let mut t: u64 = 5;
-    while t < 9 {
-        let i = t as usize;
-        if seen[i] == 1 {
-            if !signs::parity_fits(t, d) {
-                return false;
-            }
-            if t > 6 {
-                if held[i] == 0 {
-                    return false;
-                }
-            }
-        }
-        t += 1;
+    if !type_allows(5, d, seen[5], 1) {
+        return false;
     }
-    true
+    if !type_allows(6, d, seen[6], 1) {
+        return false;
+    }
+    if !type_allows(7, d, seen[7], held[7]) {
+        return false;
+    }
+    type_allows(8, d, seen[8], held[8])
 }
 
 // inner: whether a trip's time codes allow day d; `allowed` says whether its day signs do
@@ -143,15 +153,13 @@ pub fn codes_allow(seen: &[u64], held: &[u64], d: u64, allowed: bool) -> bool
     if !allowed {
         return false;
     }
-    if seen[1] == 1 {
-        if held[1] == 0 {
-            return false;
-        }
+    if !type_allows(1, d, seen[1], held[1]) {
+        return false;
     }
     weeks_allow(seen, held, d)
 }
 
-// inner: the mark that is kept when a record comes, and whether the record bears another; `kind` is its type and `mark` its mark's value
+// inner: the mark that is kept when a record comes, 0 before the first that has a type; `kind` is its type, and `found` its mark's value
 pub fn first_mark(first: u64, kind: u64, found: u64) -> u64
     ensures { λ r. ⌜ r ≡ pick (both (eqb first 0) (not (eqb kind 0))) found first ⌝ }
 {
@@ -164,7 +172,7 @@ pub fn first_mark(first: u64, kind: u64, found: u64) -> u64
     found
 }
 
-// inner
+// inner: whether the record has a type and bears another mark than the one that is kept
 pub fn differs_from(first: u64, kind: u64, found: u64) -> bool
     ensures { λ r. ⌜ r ≡ both (not (eqb kind 0)) (both (not (eqb first 0)) (not (eqb found first))) ⌝ }
 {

@@ -4,7 +4,7 @@ use field::value_of;
 use walk::part;
 ghost use mathlib.Core.Path.{_≡_};
 ghost use mathlib.Core.Bool.{true, not};
-ghost use Prim.Native.Nat.{_≤_, _<_};
+ghost use Prim.Native.Nat.{_<_};
 ghost use lib.Dec.{eqb};
 ghost use Rattle.laws.specs.Tests.{pick, both, oneOf};
 ghost use Rattle.field.specs.Kinds.{admits};
@@ -13,7 +13,7 @@ ghost use Rattle.field.specs.Values.{isTime};
 ghost use Rattle.field.specs.declared.Kind.{Kind};
 ghost use Rattle.rules.specs.Texts.{texts, Kinded};
 ghost use Rattle.trip.specs.Stops.{passesIn};
-ghost use Rattle.trip.specs.Track.{minuteOr, visitOf, setOut, timedOn, untimedOn, trackOn, trackEnds, minuteOn, timeOn, lengthOn, courseEnds};
+ghost use Rattle.trip.specs.Track.{minuteOr, visitOf, setOut, timedOn, untimedOn, trackOn, minuteOn, timeOn, lengthOn, courseEnds};
 
 // What a record says.
 pub struct Visit {
@@ -132,13 +132,22 @@ fn may_come(c: Track, v: Visit) -> bool
     !c.blank
 }
 
+// How many had a time, with one more: 1, or 2 for more.
+fn one_more(seen: u64) -> u64
+    ensures { λ r. ⌜ r ≡ pick (eqb seen 0) 1 2 ⌝ }
+{
+    if seen == 0 {
+        return 1;
+    }
+    2
+}
+
 // A record with a time comes.
 fn timed_on(c: Track, v: Visit) -> Track
     ensures { λ r. ⌜ r ≡ timedOn c v ⌝ }
 {
-    let seen = if c.seen == 0 { 1 } else { 2 };
     Track {
-        seen: seen,
+        seen: one_more(c.seen),
         departs: v.departs,
         arrives: v.arrives,
         passed: false,

@@ -158,29 +158,3 @@ pub fn codes_allow(seen: &[u64], held: &[u64], d: u64, allowed: bool) -> bool
     }
     weeks_allow(seen, held, d)
 }
-
-// inner: the mark that is kept when a record comes, 0 before the first that has a type; `kind` is its type, and `found` its mark's value
-pub fn first_mark(first: u64, kind: u64, found: u64) -> u64
-    ensures { λ r. ⌜ r ≡ pick (both (eqb first 0) (not (eqb kind 0))) found first ⌝ }
-{
-    if first != 0 {
-        return first;
-    }
-    if kind == 0 {
-        return first;
-    }
-    found
-}
-
-// inner: whether the record has a type and bears another mark than the one that is kept
-pub fn differs_from(first: u64, kind: u64, found: u64) -> bool
-    ensures { λ r. ⌜ r ≡ both (not (eqb kind 0)) (both (not (eqb first 0)) (not (eqb found first))) ⌝ }
-{
-    if kind == 0 {
-        return false;
-    }
-    if first == 0 {
-        return false;
-    }
-    found != first
-}

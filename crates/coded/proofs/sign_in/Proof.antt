@@ -1,35 +1,51 @@
+-- `coded::sign_in` meets its contract: the first record of Pevnykod that has the code number has its sign.
+use mathlib.Core.Path.{refl, sym, _∙_}
+use native.Mathlib.Omega.{arith}
 use borrow.Author.Needs.{needs}
+use denote.Ref.{now}
+use Rattle.file.specs.Files.{fieldsOf}
+use Rattle.file.specs.Records.{recordsIn}
+use Rattle.keys.specs.Keys.{keyFields, keyTable}
+use Rattle.lines.proofs.LineLaws.{place-start}
+use Rattle.amiss.proofs.RecordLaws.{sign-found, sign-none}
 use Rattle.coded.proofs.sign_in.Statement.{statement}
 use Rattle.coded.proofs.sign_in.Tie as tie
-use Rattle.coded.proofs.sign_in.Reads as reads
-use Rattle.coded.proofs.sign_in.Lts as lts
-use Rattle.amiss.proofs.sign_at.Reads as sign-at-reads
-use Rattle.trail.proofs.by_one.Reads as by-one-reads
 
--- src/lib.rt:26:11
 by-one-requires : tie.Need-by-one-requires
-by-one-requires c κs = ?
+unfolding keyFields keyTable
+by-one-requires c κs =
+    let start = c .before .before .before in
+    let k = start .pre .1 in
+    (k .size, k .way, place-start (fieldsOf 3) (now (start .args .f3)) (k .key .legal), refl, start .pre .0)
 
--- src/lib.rt:27:19
-enum-known-at : tie.Need-enum-known-at
-enum-known-at c = search needs
-
--- src/lib.rt:27:26
 sign-at-requires : tie.Need-sign-at-requires
-sign-at-requires c κs = ?
+sign-at-requires c κs =
+    let look = c .before .before .before in
+    let start = look .before .before .before .before in
+    let k = start .pre .1 in
+    let h = sign-found (now (start .args .f3)) (start .args .c) _ (k .key .legal) (sym (look .by-one .ensures) ∙ c .before .at .given .1) in
+    (k .key, k .kinds, h .place, h .within, start .pre .2)
 
--- src/lib.rt:28:27
-enum-told : tie.Need-enum-told
-enum-told c = search needs
-
--- src/lib.rt:22:1
 returns : tie.Need-returns
-returns c = ?
+returns c =
+    let look = c .before .before .before .before in
+    let start = look .before .before .before .before in
+    let h = sign-found (now (start .args .f3)) (start .args .c) _ (start .pre .1 .key .legal) (sym (look .by-one .ensures) ∙ c .before .before .at .given .1) in
+    c .sign-at .ensures ∙ sym (h .sign)
 
--- src/lib.rt:22:1
 returns-2 : tie.Need-returns-2
-returns-2 c = ?
+returns-2 c =
+    let look = c .before .before in
+    let start = look .before .before .before .before in
+    sym (sign-none (start .args .c) 0 (recordsIn (fieldsOf 3) (now (start .args .f3))) (sym (look .by-one .ensures) ∙ c .enum-told .given .1))
 
 pub sign-in-spec : {M : Type 1} → statement M
 sign-in-spec =
-    tie.close (tie.spec by-one-requires enum-known-at sign-at-requires enum-told returns returns-2)
+    tie.close
+    (tie.spec
+    by-one-requires
+    (λ c. search needs)  -- enum-known-at
+    sign-at-requires
+    (λ c. search needs)  -- enum-told
+    returns
+    returns-2)

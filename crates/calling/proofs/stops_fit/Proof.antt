@@ -1,0 +1,110 @@
+-- `calling::stops_fit` meets its contract. The loop's invariant: the pass goes on from what it has come to, through the records that are left,
+-- to what it comes to through all of them.
+use borrow.Author.Needs.{needs}
+use denote.Ref.{now}
+use lib.ListN as list
+use Rattle.file.specs.Files.{fieldsOf, fieldCounts}
+use Rattle.calling.specs.Calling.{goesUp}
+use Rattle.calling.proofs.LeftLaws.{leftAt, walks, left-here, left-kinded}
+use Rattle.calling.proofs.CallingLaws.{three-numbers, Passing, passing-start, passing-next, passing-less, passing-end}
+use Rattle.calling.proofs.stops_fit.Statement.{statement}
+use Rattle.calling.proofs.stops_fit.Tie as tie
+
+abbrev Inv-loop : tie.InvT-loop
+Inv-loop f8 order ways last line trip class up places₀ c₀ time₀ length₀ near₀ at₀ places c time length near at =
+    Passing f8 line trip near at c time length
+
+abbrev μ-loop : tie.MeasureT-loop
+μ-loop f8 order ways last line trip class up places₀ c₀ time₀ length₀ near₀ at₀ places c time length near at =
+    list.length (leftAt 8 f8 (goesUp trip) line trip at)
+
+loop-holds : tie.Need-loop-holds Inv-loop μ-loop
+loop-holds c =
+    let start = c .before .before .before .before .before in
+    let a = start .args in
+    let p = start .pre in
+    passing-start (now (a .f8)) (now (a .order)) (now (a .ways)) (p .0) (a .line) (a .trip) (p .2) (p .3) (a .last) _ _ (p .1) (c .before .set-out .ensures) (c .first-of .ensures)
+
+-- from where a record is looked at: how the function began
+module _ (l : tie.At-loop Inv-loop μ-loop) where
+  abbrev start : tie.Start Inv-loop μ-loop
+  start = l .before .before .before .before .before .before
+
+cut-requires : tie.Need-cut-requires Inv-loop μ-loop
+unfolding fieldsOf fieldCounts
+cut-requires c κs =
+    let l = c .before .before in
+    let a = start l .args in
+    let p = start l .pre in
+    (left-here 8 (now (a .f8)) (now (a .order)) (now (a .ways)) (p .0) (l .loop .at) (l .loop .inv .place) (c .before .loop-test .taken), p .4)
+
+visit-of-requires : tie.Need-visit-of-requires Inv-loop μ-loop
+unfolding fieldsOf fieldCounts
+visit-of-requires c κs =
+    let q = c .before in
+    let l = q .before .before .before in
+    let a = start l .args in
+    let p = start l .pre in
+    left-kinded 8 (now (a .f8)) (now (a .order)) (now (a .ways)) (p .0) (l .loop .at) (l .loop .inv .place) (q .before .before .loop-test .taken) (q .cut .ensures)
+
+onward-requires : tie.Need-onward-requires Inv-loop μ-loop
+unfolding fieldsOf fieldCounts
+onward-requires c κs =
+    let q = c .before .before .before .before .before .before in
+    let l = q .before .before .before in
+    let a = start l .args in
+    let p = start l .pre in
+    (walks 8 (now (a .f8)) (now (a .order)) (now (a .ways)) (p .0) three-numbers (l .loop .at) (l .loop .inv .place), left-kinded 8 (now (a .f8)) (now (a .order)) (now (a .ways)) (p .0) (l .loop .at) (l .loop .inv .place) (q .before .before .loop-test .taken) (q .cut .ensures), p .2, p .3)
+
+loop-less : tie.Need-loop-less Inv-loop μ-loop
+unfolding fieldsOf fieldCounts
+loop-less c =
+    let q = c .before .before .before .before .before .before .before in
+    let l = q .before .before .before in
+    let w = l .loop in
+    let a = start l .args in
+    let p = start l .pre in
+    passing-less (now (a .f8)) (now (a .order)) (now (a .ways)) (p .0) (a .line) (a .trip) (p .2) (p .3) (w .near) (w .at) (w .c) (w .time) (w .length) (w .inv)
+    (q .before .before .loop-test .taken) (q .cut .ensures) _ (c .onward .ensures)
+
+loop-again : tie.Need-loop-again Inv-loop μ-loop
+unfolding fieldsOf fieldCounts
+loop-again c =
+    let k = c .before .before in
+    let v = k .before .before .before in
+    let q = v .before .before in
+    let l = q .before .before .before in
+    let w = l .loop in
+    let a = start l .args in
+    let p = start l .pre in
+    passing-next (now (a .f8)) (now (a .order)) (now (a .ways)) (p .0) (a .line) (a .trip) (p .2) (p .3) (w .near) (w .at) (w .c) (w .time) (w .length) (w .inv)
+    (q .before .before .loop-test .taken) (q .cut .ensures) _ (c .onward .ensures) _ (v .visit-of .ensures) _ (k .before .before .track-on .ensures) _ (k .before .time-on .ensures)
+    _ (k .length-on .ensures)
+
+returns : tie.Need-returns Inv-loop μ-loop
+returns c =
+    let l = c .before .before in
+    let w = l .loop in
+    let a = start l .args in
+    let p = start l .pre in
+    (passing-end (now (a .f8)) (now (a .order)) (now (a .ways)) (p .0) (a .line) (a .trip) (p .2) (p .3) (w .near) (w .at) (w .c) (w .time) (w .length) (w .inv) (c .before .loop-test .left) _ (c .course-ends .ensures), w .inv .last)
+
+pub stops-fit-spec : {M : Type 1} → statement M
+stops-fit-spec =
+    tie.close
+    (tie.spec
+    Inv-loop
+    μ-loop
+    (λ c κs. search needs)  -- set-out-requires
+    (λ c κs. search needs)  -- first-of-requires
+    loop-holds
+    cut-requires
+    visit-of-requires
+    (λ c κs. search needs)  -- track-on-requires
+    (λ c κs. search needs)  -- time-on-requires
+    (λ c κs. search needs)  -- length-on-requires
+    onward-requires
+    loop-less
+    loop-again
+    (λ c κs. search needs)  -- course-ends-requires
+    returns)

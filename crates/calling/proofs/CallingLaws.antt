@@ -27,7 +27,8 @@ use Rattle.trip.specs.declared.course.Visit.{Visit}
 use Rattle.trip.proofs.TrackLaws.{AllTame, kinds-tame, course-is-stops}
 use Rattle.coded.specs.Ready.{Ready}
 use Rattle.calling.specs.Calling.{travelled, goesUp, firstPlace}
-use Rattle.calling.proofs.LeftLaws.{leftAt, all-backward, left-start, left-done, left-next}
+use Rattle.coded.specs.Left.{leftAt}
+use Rattle.coded.proofs.LeftLaws.{all-backward, left-start, left-done, left-next}
 
 -- Zasspoje's keys are three numbers
 pub three-numbers : length (keyFields 8) ≡ 3

@@ -1,2 +1,1 @@
-pub mod LeftLaws
 pub mod CallingLaws

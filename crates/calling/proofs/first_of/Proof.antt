@@ -3,7 +3,7 @@ use mathlib.Core.Path.{_∙_}
 use denote.Ref.{now}
 use borrow.Author.Tests.{ne-eqb}
 use Rattle.calling.specs.Calling.{firstPlace}
-use Rattle.calling.proofs.LeftLaws.{walks}
+use Rattle.coded.proofs.LeftLaws.{walks}
 use Rattle.calling.proofs.CallingLaws.{three-numbers}
 use Rattle.calling.proofs.first_of.Statement.{statement}
 use Rattle.calling.proofs.first_of.Tie as tie

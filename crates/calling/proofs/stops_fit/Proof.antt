@@ -5,7 +5,8 @@ use denote.Ref.{now}
 use lib.ListN as list
 use Rattle.file.specs.Files.{fieldsOf, fieldCounts}
 use Rattle.calling.specs.Calling.{goesUp}
-use Rattle.calling.proofs.LeftLaws.{leftAt, walks, left-here, left-kinded}
+use Rattle.coded.specs.Left.{leftAt}
+use Rattle.coded.proofs.LeftLaws.{walks, left-here, left-kinded}
 use Rattle.calling.proofs.CallingLaws.{three-numbers, Passing, passing-start, passing-next, passing-less, passing-end}
 use Rattle.calling.proofs.stops_fit.Statement.{statement}
 use Rattle.calling.proofs.stops_fit.Tie as tie

@@ -23,14 +23,8 @@ use Rattle.trail.specs.Lists.{backward}
 use Rattle.trail.specs.Trail.{upward, ahead, begin, after, stepOf, placeOf, Walks, Comes}
 use Rattle.trail.proofs.ListLaws.{All}
 use Rattle.trail.proofs.TrailLaws.{comes, ahead-begin}
+use Rattle.coded.specs.Left.{leftAt}
 use Rattle.coded.specs.Ready.{Ready}
-
--- the trip's records from the one at `at` on
-unfoldable pub leftAt : ℕ → List ℕ → Bool → ℕ → ℕ → ℕ → List Fields
-leftAt file s up line trip at =
-    pick (ltb at (length s))
-    (recordAt file s at ∷ ahead file up (after up (third file (recordAt file s at))) (upward file line trip (recordsIn (fieldsOf file) s)))
-    []
 
 -- backward each keeps what it kept
 module _ {A : Type 0} (keeps : A → Type 0) where

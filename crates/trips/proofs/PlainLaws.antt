@@ -1,22 +1,29 @@
 -- The stage as the code goes about it finds what document 01 says: where no two trips have one key, each record of Spoje is its line's trip of its
 -- number.
 use mathlib.Core.Path.{_≡_, refl, sym, ap, _∙_}
-use mathlib.Core.Bool.{true}
+use mathlib.Core.Bool.{Bool, true}
 use mathlib.Core.List.{List, [], _∷_, _++_}
 use Prim.Native.Nat.{ℕ, _+_}
 use lib.Dec.{eqb}
-use Rattle.laws.specs.Tests.{pick}
+use Rattle.laws.specs.Tests.{pick, both}
 use Rattle.laws.specs.Numbered.{Numbered, refusedIn}
+use Rattle.file.specs.Files.{fieldsOf}
 use Rattle.file.specs.Format.{Fields}
-use Rattle.field.specs.Names.{timeCodesFile, tripStopsFile}
+use Rattle.walk.specs.Walk.{LegalFrom}
+use Rattle.walk.specs.declared.Found.the-variants.{At}
+use Rattle.keys.specs.Keys.{firstWith}
+use Rattle.keys.specs.Ranks.{recordAt}
+use Rattle.field.specs.Names.{linesFile, timeCodesFile, tripStopsFile}
 use Rattle.link.specs.Signs.{codesFile, signOf}
-use Rattle.thirteen.specs.Batch.{Batch, recordsOf}
-use Rattle.trail.specs.Trail.{Once}
+use Rattle.thirteen.specs.Batch.{Batch, fileIn, recordsOf}
+use Rattle.trail.specs.Lists.{firstOr}
+use Rattle.trail.specs.Trail.{Once, upward}
+use Rattle.trip.specs.Days.{codesAllow, isValid}
 use Rattle.trip.specs.Stage.{tripsFile, faultOfTrip, tripsFrom, tripsFault}
-use Rattle.trip.specs.View.{tripSigns}
-use Rattle.trip.proofs.ViewLaws.{view-fault}
+use Rattle.trip.specs.View.{ofLine, viewOf, runsOn, tripSigns}
+use Rattle.trip.proofs.ViewLaws.{view-codes, view-fault, view-trip-found}
 use Rattle.calling.specs.Calling.{travelled}
-use Rattle.trips.specs.Plain.{plainFault, plainFrom}
+use Rattle.trips.specs.Plain.{plainFault, plainFrom, plainRuns}
 
 -- lists put together in either order
 append-assoc : {A : Type 0} (a b c : List A) → (a ++ b) ++ c ≡ a ++ (b ++ c)
@@ -46,3 +53,18 @@ module _ (b : Batch) (once : Once tripsFile (recordsOf b tripsFile)) where
   pub plain-trips : from 1 (recordsOf b tripsFile) ≡ tripsFault b
   unfolding tripsFault
   plain-trips = plain-rest 1 [] (recordsOf b tripsFile) refl
+
+-- a line's validity is that of its record in its view
+valid-line : (b : Batch) (line d : ℕ) (t : Bool) → both (isValid (firstOr [] (ofLine line) (recordsOf b linesFile)) d) t ≡ both (isValid (viewOf b line .line) d) t
+unfolding viewOf
+valid-line b line d t = refl
+
+-- and a trip that is found by its key runs when its line's view says so
+pub plain-runs : (b : Batch) (line trip p : ℕ) → LegalFrom (fieldsOf tripsFile) (fileIn b tripsFile) 0
+    → firstWith tripsFile (line ∷ trip ∷ []) 0 (recordsOf b tripsFile) ≡ At p → (holidays : List ℕ) (d : ℕ)
+    → plainRuns (recordsOf b codesFile) (recordsOf b linesFile) (recordsOf b timeCodesFile) line trip (recordAt tripsFile (fileIn b tripsFile) p) holidays d
+    ≡ runsOn (viewOf b line) trip holidays d
+unfolding plainRuns runsOn tripSigns signOf
+plain-runs b line trip p l e holidays d =
+    let r = recordAt tripsFile (fileIn b tripsFile) p in
+    rw (view-trip-found b line trip p l e r refl, view-codes b line trip) (valid-line b line d (codesAllow (tripSigns b r) (upward 10 line trip (recordsOf b 10)) d holidays))

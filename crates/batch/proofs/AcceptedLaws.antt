@@ -1,5 +1,6 @@
--- A batch in which none of the refusals 1 to 9 is found keeps every rule behind them: no length is passed, each file is legal, VerzeJDF is one
--- record `1.8`, each field is of its kind and each record keeps its rules, keys are distinct, links are met and signs are permitted.
+-- A batch in which none of the refusals 1 to 11 is found keeps every rule behind them: no length is passed, each file is legal, VerzeJDF is one
+-- record `1.8`, each field is of its kind and each record keeps its rules, keys are distinct, links are met and signs are permitted, and nothing is
+-- wrong with any trip. So it stands, and its trips may be asked for.
 use mathlib.Core.Path.{_≡_, refl, sym, ap, _∙_}
 use mathlib.Core.Bool.{true, false}
 use mathlib.Core.List.{List, [], _∷_}
@@ -17,6 +18,8 @@ use Rattle.thirteen.specs.Batch.{Batch, fileIn, recordsOf, overFiles}
 use Rattle.thirteen.proofs.OverLaws.{over-each}
 use Rattle.link.specs.Met.{Linking, Signed}
 use Rattle.link.specs.Stage.{linkFault, linksFault}
+use Rattle.trip.specs.Stage.{faultOfTrip, tripsFrom, tripsFault}
+use Rattle.trips.specs.Standing.{Standing}
 use Rattle.link.proofs.LinkingLaws.{linked}
 use Rattle.link.proofs.SignedLaws.{signed}
 use Rattle.amiss.specs.Sound.{SoundFiles}
@@ -33,6 +36,7 @@ pub record Kept (b : Batch) : Type 0 where
   pub sound : SoundFiles b
   pub linking : Linking b
   pub signs : Signed b
+  pub trips : tripsFault b ≡ answered []
 
 -- 1 is found at a file that is too long
 short : (b : Batch) (file : ℕ) → lengthFault b file .number ≡ 0 → length (fileIn b file) ≤ longest
@@ -58,9 +62,22 @@ over-zero fault file (suc count) e =
     (λ t. rw t (over-zero fault (file + 1) count (rw t at e)))
     (λ t. absurd (eqb-false (fault file .number) 0 t (rw t at e)))
 
-no-links : (b : Batch) → linksFault b .number ≡ 0 → linksFault b ≡ answered []
+pub no-links : (b : Batch) → linksFault b .number ≡ 0 → linksFault b ≡ answered []
 unfolding linksFault
 no-links b e = over-zero (linkFault b) 2 12 e
+
+-- the same of trips
+trips-zero : (b : Batch) (k : ℕ) (rs : List Fields) → tripsFrom b k rs .number ≡ 0 → tripsFrom b k rs ≡ answered []
+unfolding tripsFrom
+trips-zero b k [] e = refl
+trips-zero b k (r ∷ rs) e =
+    either (eqb (faultOfTrip b r) 0)
+    (λ t. rw t (trips-zero b (k + 1) rs (rw t at e)))
+    (λ t. absurd (eqb-false (faultOfTrip b r) 0 t (rw t at e)))
+
+no-trips : (b : Batch) → tripsFault b .number ≡ 0 → tripsFault b ≡ answered []
+unfolding tripsFault
+no-trips b e = trips-zero b 1 (recordsOf b 6) e
 
 pub kept : (b : Batch) → faultOf b ≡ answered [] → Kept b
 unfolding faultOf stages
@@ -78,4 +95,9 @@ kept b e =
       sound = sound-files b legal (zero-at 3 (omega arith));
       linking = linked b nothing;
       signs = signed b nothing;
+      trips = no-trips b (zero-at 5 (omega arith));
     }
+
+-- and so it stands
+pub standing : (b : Batch) → faultOf b ≡ answered [] → Standing b
+standing b e = let k = kept b e in record { sound = k .sound; linking = k .linking; signed = k .signs; trips = k .trips }

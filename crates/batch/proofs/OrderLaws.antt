@@ -27,6 +27,8 @@ none-zero (Fault.Broken file k) e = absurd (omega arith)
 none-zero (Fault.Used file k) e = absurd (omega arith)
 none-zero (Fault.Dangling file k f) e = absurd (omega arith)
 none-zero (Fault.Misplaced file k f) e = absurd (omega arith)
+none-zero (Fault.Days k) e = absurd (omega arith)
+none-zero (Fault.Stops k) e = absurd (omega arith)
 
 -- what the test of a fault says of its number
 module _ (f : Fault) (r : Bool) (t : r ≡ eqb (numberedFault f .number) 0) where

@@ -2,6 +2,7 @@
 use mathlib.Core.List.{[]}
 use Rattle.laws.specs.Numbered.{Numbered, answered, refusedIn}
 use Rattle.file.specs.Answers.{numbered}
+use Rattle.trip.specs.Stage.{tripsFile}
 use Rattle.batch.specs.declared.Fault.{Fault}
 
 unfoldable pub numberedFault : Fault → Numbered
@@ -13,3 +14,5 @@ numberedFault (Fault.Broken file k) = refusedIn 6 file k 0
 numberedFault (Fault.Used file k) = refusedIn 7 file k 0
 numberedFault (Fault.Dangling file k f) = refusedIn 8 file k f
 numberedFault (Fault.Misplaced file k f) = refusedIn 9 file k f
+numberedFault (Fault.Days k) = refusedIn 10 tripsFile k 0
+numberedFault (Fault.Stops k) = refusedIn 11 tripsFile k 0

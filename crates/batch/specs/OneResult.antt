@@ -1,4 +1,4 @@
--- `check_links` is promised by an equation with document 01's number and place, and so allows one result only: each case of its answer
+-- `check` is promised by an equation with document 01's number and place, and so allows one result only: each case of its answer
 -- can be told back from what `numberedFault` gives for it.
 use mathlib.Core.Path.{_≡_, refl, sym, subst}
 use mathlib.Core.Bool.{Bool, true, false}
@@ -16,11 +16,11 @@ use Rattle.batch.specs.declared.Fault.{Fault}
 use Rattle.batch.specs.Answers.{numberedFault}
 use Rattle.batch.specs.Order.{faultOf}
 
--- a file's own refusals are none of 4 to 9
-abbrev fourToNine : ℕ → Bool
-fourToNine n = both (leb 4 n) (leb n 9)
+-- a file's own refusals are none of 4 to 11
+abbrev fourToEleven : ℕ → Bool
+fourToEleven n = both (leb 4 n) (leb n 11)
 
-outside : (r : Refusal) → fourToNine (numbered r .number) ≡ false
+outside : (r : Refusal) → fourToEleven (numbered r .number) ≡ false
 unfolding numbered
 outside (Refusal.TooLong file) = refl
 outside (Refusal.Unfit file at) = refl
@@ -29,8 +29,8 @@ outside Refusal.NoSuch = refl
 outside Refusal.NotPermitted = refl
 outside Refusal.NoRoom = refl
 
-not-this : (r : Refusal) (n : ℕ) → fourToNine n ≡ true → eqb (numbered r .number) n ≡ false
-not-this r n h = ne-eqb (numbered r .number) n (λ e. clash (subst (λ (m : ℕ). fourToNine m ≡ true) (sym e) h) (outside r))
+not-this : (r : Refusal) (n : ℕ) → fourToEleven n ≡ true → eqb (numbered r .number) n ≡ false
+not-this r n h = ne-eqb (numbered r .number) n (λ e. clash (subst (λ (m : ℕ). fourToEleven m ≡ true) (sym e) h) (outside r))
 
 -- the case of this number and place
 caseOf : Numbered → Fault
@@ -42,22 +42,26 @@ caseOf a =
     (pick (eqb (a .number) 7) (Fault.Used (a .inFile) (a .inRecord))
     (pick (eqb (a .number) 8) (Fault.Dangling (a .inFile) (a .inRecord) (a .inField))
     (pick (eqb (a .number) 9) (Fault.Misplaced (a .inFile) (a .inRecord) (a .inField))
-    (Fault.File (refusalOf a))))))))
+    (pick (eqb (a .number) 10) (Fault.Days (a .inRecord))
+    (pick (eqb (a .number) 11) (Fault.Stops (a .inRecord))
+    (Fault.File (refusalOf a))))))))))
 
 case-told : (f : Fault) → caseOf (numberedFault f) ≡ f
 unfolding numberedFault caseOf
 case-told Fault.None = refl
 case-told (Fault.File r) =
-    rw (no-answer r, not-this r 4 refl, not-this r 5 refl, not-this r 6 refl, not-this r 7 refl, not-this r 8 refl, not-this r 9 refl, refusal-told r)
+    rw (no-answer r, not-this r 4 refl, not-this r 5 refl, not-this r 6 refl, not-this r 7 refl, not-this r 8 refl, not-this r 9 refl, not-this r 10 refl, not-this r 11 refl, refusal-told r)
 case-told (Fault.Version k f) = refl
 case-told (Fault.Unkind file k f) = refl
 case-told (Fault.Broken file k) = refl
 case-told (Fault.Used file k) = refl
 case-told (Fault.Dangling file k f) = refl
 case-told (Fault.Misplaced file k f) = refl
+case-told (Fault.Days k) = refl
+case-told (Fault.Stops k) = refl
 
 pub fault-one : OneToOne numberedFault
 fault-one = told-back numberedFault caseOf case-told
 
-pub check-links-settled : (b : Batch) → Settled (λ (r : Fault). numberedFault r ≡ faultOf b)
-check-links-settled b = settled numberedFault fault-one (faultOf b)
+pub check-settled : (b : Batch) → Settled (λ (r : Fault). numberedFault r ≡ faultOf b)
+check-settled b = settled numberedFault fault-one (faultOf b)

@@ -1,4 +1,4 @@
--- Document 01's batch order, as far as keys, links and signs: 1 over all files, 2 and 3 over all files, 4, then 5 and 6, then 7, 8, 9. The
+-- Document 01's batch order: 1 over all files, 2 and 3 over all files, 4, then 5 and 6, then 7, 8, 9, then trips in Spoje order, 10 before 11. The
 -- stages are one list, and the first fault wins.
 use Prim.Native.Nat.{ℕ}
 use mathlib.Core.List.{List, [], _∷_}
@@ -17,6 +17,7 @@ use Rattle.field.specs.Stage.{fieldFault}
 use Rattle.thirteen.specs.Batch.{Batch, fileIn, recordsOf, orElse, overFiles}
 use Rattle.keys.specs.Keys.{same}
 use Rattle.link.specs.Stage.{linksFault}
+use Rattle.trip.specs.Stage.{tripsFault}
 
 -- 1: a file over 16,777,215 bytes
 unfoldable pub lengthFault : Batch → ℕ → Numbered
@@ -49,6 +50,7 @@ stages b =
     ∷ versionFault (recordsOf b 1)
     ∷ overFiles (λ file. fieldFault file (recordsOf b file)) 2 12
     ∷ linksFault b
+    ∷ tripsFault b
     ∷ []
 
 -- the first fault wins
@@ -56,6 +58,6 @@ unfoldable pub firstFault : List Numbered → Numbered
 firstFault [] = answered []
 firstFault (a ∷ next) = orElse a (firstFault next)
 
--- of a batch, as far as 9
+-- of a batch
 unfoldable pub faultOf : Batch → Numbered
 faultOf b = firstFault (stages b)

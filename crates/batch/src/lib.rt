@@ -1,4 +1,4 @@
-// The check of a batch in document 01's order, as far as keys, links and signs: refusals 1 to 9.
+// The check of a batch in document 01's order: refusals 1 to 11.
 use fields::Checked;
 use fields::first_fault;
 use file::Outcome;
@@ -7,19 +7,29 @@ use file::classes;
 use file::fields_of;
 use link::Linked;
 use links::links_fault;
+use lookup::survey;
 use reader::read;
 use thirteen::file_of;
+use trips::Timed;
+use trips::trips_fault;
 use walk::cut;
 use walk::part;
 ghost use mathlib.Core.Path.{_≡_};
+ghost use mathlib.Core.List.{[]};
+ghost use Prim.Native.Nat.{_≤_};
 ghost use lib.Dec.{eqb};
-ghost use lib.ListN.{take};
+ghost use lib.ListN.{length, take, drop};
+ghost use Rattle.laws.specs.Numbered.{answered};
+ghost use Rattle.file.specs.Reader.{Classes};
 ghost use Rattle.file.specs.Records.{recordsIn};
 ghost use Rattle.field.specs.Stage.{fieldFault};
 ghost use Rattle.fields.specs.Check.{numberedChecked};
 ghost use Rattle.link.specs.Stage.{numberedLinked};
 ghost use Rattle.thirteen.specs.Batch.{thirteen, recordsOf, overFiles};
 ghost use Rattle.walk.specs.Walk.{LegalFrom};
+ghost use Rattle.lookup.specs.Ways.{Ways};
+ghost use Rattle.amiss.specs.Sound.{SoundFiles};
+ghost use Rattle.trips.specs.Answers.{numberedTimed};
 ghost use Rattle.batch.specs.Answers.{numberedFault};
 ghost use Rattle.batch.specs.Legal.{LegalFiles};
 ghost use Rattle.batch.specs.Order.{lengthFault, bytesFault, isVersion, outcomeFault, versionFault, stages, firstFault, faultOf};
@@ -45,6 +55,10 @@ pub enum Fault {
     Dangling(u64, u64, u64),
     // File, record and field: its sign is not permitted here.
     Misplaced(u64, u64, u64),
+    // The record of a trip in Spoje: its days are wrong.
+    Days(u64),
+    // The same: its stops are wrong.
+    Stops(u64),
 }
 
 // Whether there is none.
@@ -272,9 +286,128 @@ fn linked_fault(l: Linked) -> Fault
     }
 }
 
-// The first fault of a batch, as far as 9. `order` is a hint and may hold anything: the promise doesn't mention it, and no answer depends
-// on it.
-pub fn check_links<'a>(
+// 10 and 11, as a fault of the batch.
+fn timed_fault(t: Timed) -> Fault
+    ensures { λ r. ⌜ numberedFault r ≡ numberedTimed t ⌝ }
+{
+    match t {
+        Timed::Sound => Fault::None,
+        Timed::Days(k) => Fault::Days(k),
+        Timed::Stops(k) => Fault::Stops(k),
+    }
+}
+
+// 7 to 11.
+fn check_records<'a>(
+    f1: &'a [u8],
+    f2: &'a [u8],
+    f3: &'a [u8],
+    f4: &'a [u8],
+    f5: &'a [u8],
+    f6: &'a [u8],
+    f7: &'a [u8],
+    f8: &'a [u8],
+    f9: &'a [u8],
+    f10: &'a [u8],
+    f11: &'a [u8],
+    f12: &'a [u8],
+    f13: &'a [u8],
+    order: &[u32],
+    ways: &[usize],
+    class: &[u8; 256],
+) -> Fault
+    requires { ⌜ SoundFiles (thirteen (now f1) (now f2) (now f3) (now f4) (now f5) (now f6) (now f7) (now f8) (now f9) (now f10) (now f11) (now f12) (now f13)) × (33 ≤ length (now ways)) × Ways (thirteen (now f1) (now f2) (now f3) (now f4) (now f5) (now f6) (now f7) (now f8) (now f9) (now f10) (now f11) (now f12) (now f13)) (now order) (now ways) × Classes (now class) ⌝ }
+    ensures { λ r. ⌜ numberedFault r ≡ firstFault (drop 4 (stages (thirteen (now (f1 .entry)) (now (f2 .entry)) (now (f3 .entry)) (now (f4 .entry)) (now (f5 .entry)) (now (f6 .entry)) (now (f7 .entry)) (now (f8 .entry)) (now (f9 .entry)) (now (f10 .entry)) (now (f11 .entry)) (now (f12 .entry)) (now (f13 .entry))))) ⌝ }
+{
+    let fault = linked_fault(links_fault(
+        f1,
+        f2,
+        f3,
+        f4,
+        f5,
+        f6,
+        f7,
+        f8,
+        f9,
+        f10,
+        f11,
+        f12,
+        f13,
+        order,
+        ways,
+        class,
+    ));
+    if !is_none(fault) {
+        return fault;
+    }
+    timed_fault(trips_fault(f3, f6, f8, f10, order, ways, class))
+}
+
+// inner: the first fault of a batch, and, where there is none, the ways to its records
+pub fn check_with<'a>(
+    f1: &'a [u8],
+    f2: &'a [u8],
+    f3: &'a [u8],
+    f4: &'a [u8],
+    f5: &'a [u8],
+    f6: &'a [u8],
+    f7: &'a [u8],
+    f8: &'a [u8],
+    f9: &'a [u8],
+    f10: &'a [u8],
+    f11: &'a [u8],
+    f12: &'a [u8],
+    f13: &'a [u8],
+    order: &[u32],
+    ways: &mut [usize],
+    class: &[u8; 256],
+) -> Fault
+    requires { ⌜ (33 ≤ length (now ways)) × Classes (now class) ⌝ }
+    ensures { λ r. ⌜ (numberedFault r ≡ faultOf (thirteen (now (f1 .entry)) (now (f2 .entry)) (now (f3 .entry)) (now (f4 .entry)) (now (f5 .entry)) (now (f6 .entry)) (now (f7 .entry)) (now (f8 .entry)) (now (f9 .entry)) (now (f10 .entry)) (now (f11 .entry)) (now (f12 .entry)) (now (f13 .entry)))) × (faultOf (thirteen (now (f1 .entry)) (now (f2 .entry)) (now (f3 .entry)) (now (f4 .entry)) (now (f5 .entry)) (now (f6 .entry)) (now (f7 .entry)) (now (f8 .entry)) (now (f9 .entry)) (now (f10 .entry)) (now (f11 .entry)) (now (f12 .entry)) (now (f13 .entry))) ≡ answered [] → Ways (thirteen (now (f1 .entry)) (now (f2 .entry)) (now (f3 .entry)) (now (f4 .entry)) (now (f5 .entry)) (now (f6 .entry)) (now (f7 .entry)) (now (f8 .entry)) (now (f9 .entry)) (now (f10 .entry)) (now (f11 .entry)) (now (f12 .entry)) (now (f13 .entry))) (now (order .entry)) (now (ways .exit))) ⌝ }
+{
+    let fault = check_files(f1, f2, f3, f4, f5, f6, f7, f8, f9, f10, f11, f12, f13);
+    if !is_none(fault) {
+        return fault;
+    }
+    survey(
+        f1,
+        f2,
+        f3,
+        f4,
+        f5,
+        f6,
+        f7,
+        f8,
+        f9,
+        f10,
+        f11,
+        f12,
+        f13,
+        order,
+        ways,
+    );
+    check_records(
+        f1,
+        f2,
+        f3,
+        f4,
+        f5,
+        f6,
+        f7,
+        f8,
+        f9,
+        f10,
+        f11,
+        f12,
+        f13,
+        order,
+        ways,
+        class,
+    )
+}
+
+// The first fault of a batch. `order` is a hint and may hold anything: the promise doesn't mention it, and no answer depends on it.
+pub fn check<'a>(
     f1: &'a [u8],
     f2: &'a [u8],
     f3: &'a [u8],
@@ -292,11 +425,9 @@ pub fn check_links<'a>(
 ) -> Fault
     ensures { λ r. ⌜ numberedFault r ≡ faultOf (thirteen (now (f1 .entry)) (now (f2 .entry)) (now (f3 .entry)) (now (f4 .entry)) (now (f5 .entry)) (now (f6 .entry)) (now (f7 .entry)) (now (f8 .entry)) (now (f9 .entry)) (now (f10 .entry)) (now (f11 .entry)) (now (f12 .entry)) (now (f13 .entry))) ⌝ }
 {
-    let fault = check_files(f1, f2, f3, f4, f5, f6, f7, f8, f9, f10, f11, f12, f13);
-    if !is_none(fault) {
-        return fault;
-    }
-    linked_fault(links_fault(
+    let class = classes();
+    let mut ways: [usize; 33] = [0; 33];
+    check_with(
         f1,
         f2,
         f3,
@@ -311,5 +442,7 @@ pub fn check_links<'a>(
         f12,
         f13,
         order,
-    ))
+        &mut ways,
+        &class,
+    )
 }

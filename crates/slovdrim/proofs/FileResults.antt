@@ -4,8 +4,8 @@ use Rattle.laws.specs.Numbered.{Numbered}
 use Rattle.file.specs.Answers.{numbered}
 use Rattle.file.specs.declared.Refusal.{Refusal}
 use Rattle.slovdrim.specs.Files.{refusedPlace, recordsResult, stretchResult, writeResult}
-use Rattle.slovdrim.specs.Checks.{fieldsResult, linksResult}
-use Rattle.slovdrim.specs.declared.batches.LinksResult.{LinksResult}
+use Rattle.slovdrim.specs.Checks.{fieldsResult, checkResult}
+use Rattle.slovdrim.specs.declared.batches.CheckResult.{CheckResult}
 use Rattle.slovdrim.specs.declared.checks.FieldsResult.{FieldsResult}
 use Rattle.slovdrim.specs.declared.files.Place.{Place}
 use Rattle.slovdrim.specs.declared.files.RecordsResult.{RecordsResult}
@@ -60,14 +60,14 @@ refused-fields Refusal.NoSuch = refl
 refused-fields Refusal.NotPermitted = refl
 refused-fields Refusal.NoRoom = refl
 
-abbrev pub linksAt : Place → LinksResult
-linksAt p = record { number = p .number; file = p .file; «record» = 0; field = 0; offset = p .offset }
+abbrev pub checkAt : Place → CheckResult
+checkAt p = record { number = p .number; file = p .file; «record» = 0; field = 0; offset = p .offset }
 
-pub refused-links : (why : Refusal) → linksAt (refusedPlace (numbered why)) ≡ linksResult (numbered why)
-unfolding numbered refusedPlace linksResult
-refused-links (Refusal.TooLong file) = refl
-refused-links (Refusal.Unfit file at) = refl
-refused-links (Refusal.CutShort file at) = refl
-refused-links Refusal.NoSuch = refl
-refused-links Refusal.NotPermitted = refl
-refused-links Refusal.NoRoom = refl
+pub refused-check : (why : Refusal) → checkAt (refusedPlace (numbered why)) ≡ checkResult (numbered why)
+unfolding numbered refusedPlace checkResult
+refused-check (Refusal.TooLong file) = refl
+refused-check (Refusal.Unfit file at) = refl
+refused-check (Refusal.CutShort file at) = refl
+refused-check Refusal.NoSuch = refl
+refused-check Refusal.NotPermitted = refl
+refused-check Refusal.NoRoom = refl

@@ -1,5 +1,5 @@
 // The C interface of the library: every exported function, thin.
-mod batches; // batches.rt: the keys, links and signs of a batch
+mod batches; // batches.rt: the check of a batch
 mod checks; // checks.rt: the fields and rules of a file
 mod days; // days.rt: dates, day numbers, weekdays, weeks, holidays, day signs
 mod files; // files.rt: the records of a file, the stretch of a field, the writer

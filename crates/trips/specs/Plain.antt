@@ -3,17 +3,19 @@
 use Prim.Native.Nat.{ℕ, _+_}
 use mathlib.Core.List.{List, [], _∷_}
 use lib.Dec.{eqb}
-use Rattle.laws.specs.Tests.{pick}
+use mathlib.Core.Bool.{Bool}
+use Rattle.laws.specs.Tests.{pick, both}
 use Rattle.laws.specs.Numbered.{Numbered, answered, refusedIn}
 use Rattle.file.specs.Format.{Fields}
 use Rattle.field.specs.Names.{timeCodesFile}
 use Rattle.link.specs.Met.{number}
 use Rattle.link.specs.Signs.{signIn}
+use Rattle.trail.specs.Lists.{firstOr}
 use Rattle.trail.specs.Trail.{upward}
-use Rattle.trip.specs.Days.{daysFit}
+use Rattle.trip.specs.Days.{daysFit, codesAllow, isValid}
 use Rattle.trip.specs.Stage.{tripsFile}
 use Rattle.trip.specs.Stops.{stopsFit}
-use Rattle.trip.specs.View.{signsFrom}
+use Rattle.trip.specs.View.{signsFrom, ofLine}
 use Rattle.calling.specs.Calling.{travelled}
 
 -- what is wrong with the trip of record r, where `codes`, `stops` and `times` are the records of Pevnykod, Zasspoje and Caskody
@@ -28,3 +30,9 @@ module _ (codes stops times : List Fields) where
   unfoldable pub plainFrom : ℕ → List Fields → Numbered
   plainFrom k [] = answered []
   plainFrom k (r ∷ rs) = pick (eqb (plainFault r) 0) (plainFrom (k + 1) rs) (refusedIn (plainFault r) tripsFile k 0)
+
+-- whether the trip of record r, of this line and number, runs on day d; `lines` are the records of Linky
+unfoldable pub plainRuns : List Fields → List Fields → List Fields → ℕ → ℕ → Fields → List ℕ → ℕ → Bool
+plainRuns codes lines times line trip r holidays d =
+    both (isValid (firstOr [] (ofLine line) lines) d)
+    (codesAllow (signsFrom (λ c. signIn codes c) 3 10 r) (upward timeCodesFile line trip times) d holidays)

@@ -2,7 +2,7 @@
 use mathlib.Core.Path.{ap, _∙_}
 use borrow.Author.Needs.{needs}
 use Rattle.batch.specs.Answers.{numberedFault}
-use Rattle.slovdrim.proofs.FileResults.{linksAt, refused-links}
+use Rattle.slovdrim.proofs.FileResults.{checkAt, refused-check}
 use Rattle.slovdrim.proofs.batches.handed.Statement.{statement}
 use Rattle.slovdrim.proofs.batches.handed.Tie as tie
 
@@ -14,7 +14,7 @@ returns-2 : tie.Need-returns-2
 unfolding numberedFault
 returns-2 c =
     let p = c .before .before in
-    rw (p .fault .given .1) (ap linksAt (c .place-of .ensures) ∙ refused-links (p .fault .given .0 .0))
+    rw (p .fault .given .1) (ap checkAt (c .place-of .ensures) ∙ refused-check (p .fault .given .0 .0))
 
 returns-3 : tie.Need-returns-3
 unfolding numberedFault
@@ -40,6 +40,14 @@ returns-8 : tie.Need-returns-8
 unfolding numberedFault
 returns-8 c = rw (c .before .before .fault7 .given .1) (c .found-in7 .ensures)
 
+returns-9 : tie.Need-returns-9
+unfolding numberedFault
+returns-9 c = rw (c .before .before .fault8 .given .1) (c .found-in8 .ensures)
+
+returns-10 : tie.Need-returns-10
+unfolding numberedFault
+returns-10 c = rw (c .before .before .fault9 .given .1) (c .found-in9 .ensures)
+
 pub handed-spec : {M : Type 1} → statement M
 handed-spec =
     tie.close
@@ -60,6 +68,10 @@ handed-spec =
     (λ c κs. search needs)  -- found-in-requires-6
     (λ c. search needs)  -- enum-known-fault-7
     (λ c κs. search needs)  -- found-in-requires-7
+    (λ c. search needs)  -- enum-known-fault-8
+    (λ c κs. search needs)  -- found-in-requires-8
+    (λ c. search needs)  -- enum-known-fault-9
+    (λ c κs. search needs)  -- found-in-requires-9
     returns
     returns-2
     returns-3
@@ -67,4 +79,6 @@ handed-spec =
     returns-5
     returns-6
     returns-7
-    returns-8)
+    returns-8
+    returns-9
+    returns-10)

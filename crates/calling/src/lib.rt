@@ -21,8 +21,15 @@ pub struct Stops {
     pub last: usize,
 }
 
-// Where the walk in travel order begins.
-fn first_of(f8: &[u8], order: &[u32], ways: &[usize], last: usize, line: u64, trip: u64) -> usize
+// inner: where the walk in travel order begins
+pub fn first_of(
+    f8: &[u8],
+    order: &[u32],
+    ways: &[usize],
+    last: usize,
+    line: u64,
+    trip: u64,
+) -> usize
     requires { ⌜ Ready tripStopsFile (now f8) (now order) (now ways) × PlaceIn tripStopsFile (now f8) last × (line < none) × (trip < none) ⌝ }
     ensures { λ r. ⌜ r ≡ firstPlace (now (f8 .entry)) line trip ⌝ }
 {

@@ -72,5 +72,17 @@ pub fn trip_runs(
     }
     let mut places: [usize; 14] = [0; 14];
     cut(f6, at, 12, class, &mut places);
-    allowed_on(f6, &places, line, trip, f3, f10, order, ways, class, d, holidays)
+    allowed_on(
+        f6,
+        &places,
+        line,
+        trip,
+        f3,
+        f10,
+        order,
+        ways,
+        class,
+        d,
+        holidays,
+    )
 }

@@ -1,0 +1,37 @@
+-- A trip's stops one by one, as the code goes about them: the records of each file are looked through as they are.
+use Prim.Native.Nat.{ℕ, _+_}
+use mathlib.Core.Path.{_≡_}
+use mathlib.Core.Bool.{Bool}
+use mathlib.Core.List.{List, [], _++_}
+use lib.Dec.{eqb}
+use lib.ListN.{length, drop}
+use Rattle.laws.specs.Tests.{pick, both}
+use Rattle.file.specs.Files.{fieldsOf}
+use Rattle.file.specs.Format.{Fields}
+use Rattle.file.specs.Records.{recordsIn}
+use Rattle.field.specs.Names.{tripStopsFile}
+use Rattle.keys.specs.Keys.{third}
+use Rattle.keys.specs.KeyFiles.{PlaceIn}
+use Rattle.link.specs.Met.{number}
+use Rattle.link.specs.Signs.{signIn}
+use Rattle.coded.specs.Left.{leftAt}
+use Rattle.trail.specs.Lists.{select, firstOr}
+use Rattle.trip.specs.View.{signsFrom}
+use Rattle.calling.specs.Calling.{travelled, goesUp}
+
+-- the trip's records in travel order from the nth on are those that are left where the walk stands
+pub record Nth (s : List ℕ) (line trip n at : ℕ) : Type 0 where
+  pub place : PlaceIn tripStopsFile s at
+  pub left : leftAt tripStopsFile s (goesUp trip) line trip at ≡ drop n (travelled line trip (recordsIn (fieldsOf tripStopsFile) s))
+
+-- the signs of the stop of Zasspoje record r, where `codes` and `lineStops` are the records of Pevnykod and Zaslinky: those of its own codes, or if it
+-- has none, those of the line's stop; a `$` (36) of the line's stop always counts
+module _ (codes lineStops : List Fields) where
+  unfoldable pub lineStopAt : Fields → Fields
+  lineStopAt r = firstOr [] (λ q. both (eqb (number 1 q) (number 1 r)) (eqb (number 2 q) (third tripStopsFile r))) lineStops
+
+  unfoldable pub plainSigns : Fields → List ℕ
+  plainSigns r =
+      let own = signsFrom (λ c. signIn codes c) 6 2 r in
+      let theirs = signsFrom (λ c. signIn codes c) 5 3 (lineStopAt r) in
+      pick (eqb (length own) 0) theirs (own ++ select (λ x. eqb x 36) theirs)

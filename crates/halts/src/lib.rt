@@ -1,0 +1,207 @@
+// A trip's stops one by one: how many it has, the nth in travel order, whether a later one has a time, and the signs of one.
+use calling::first_of;
+use coded::code_sign;
+use field::value_of;
+use trail::by_two;
+use trail::onward;
+use trip::course;
+use walk::Found;
+use walk::cut;
+use walk::part;
+ghost use mathlib.Core.Path.{_≡_};
+ghost use Prim.Native.Nat.{ℕ, _+_, _-_, _≤_, _<_};
+ghost use lib.ListN.{length, drop};
+ghost use Rattle.file.specs.Files.{fieldsOf};
+ghost use Rattle.file.specs.Reader.{Classes};
+ghost use Rattle.file.specs.Records.{recordsIn};
+ghost use Rattle.field.specs.Names.{tripStopsFile};
+ghost use Rattle.keys.specs.Keys.{none};
+ghost use Rattle.keys.specs.KeyFiles.{PlaceIn};
+ghost use Rattle.keys.specs.Ranks.{recordAt};
+ghost use Rattle.link.specs.Numeric.{CodeAt};
+ghost use Rattle.link.specs.Signs.{signIn, isIn, codesFile};
+ghost use Rattle.rules.specs.Texts.{texts, Kinded};
+ghost use Rattle.coded.specs.Left.{leftAt};
+ghost use Rattle.coded.specs.Ready.{Ready};
+ghost use Rattle.trail.specs.Lists.{some};
+ghost use Rattle.trip.specs.Stops.{timed};
+ghost use Rattle.trip.specs.View.{signsFrom};
+ghost use Rattle.calling.specs.Calling.{travelled, goesUp};
+ghost use Rattle.halts.specs.Halts.{Nth, lineStopAt, plainSigns};
+
+// inner: how many stops a trip has
+pub fn count_stops(
+    f8: &[u8],
+    order: &[u32],
+    ways: &[usize],
+    line: u64,
+    trip: u64,
+    class: &[u8; 256],
+) -> u64
+    requires { ⌜ Ready tripStopsFile (now f8) (now order) (now ways) × (line < none) × (trip < none) × Classes (now class) ⌝ }
+    ensures { λ r. ⌜ r ≡ length (travelled line trip (recordsIn (fieldsOf tripStopsFile) (now (f8 .entry)))) ⌝ }
+{
+    let up = trip % 2 == 1;
+    let mut places: [usize; 14] = [0; 14];
+    let mut n: u64 = 0;
+    let mut at = first_of(f8, order, ways, 0, line, trip);
+    while at < f8.len() {
+        cut(f8, at, 10, class, &mut places);
+        n += 1;
+        at = onward(8, f8, &places, order, ways, at, up, line, trip);
+    }
+    n
+}
+
+// inner: the place of a trip's nth stop in travel order, from 0 on; the end of the file if it has no more
+pub fn nth_stop(
+    n: u64,
+    f8: &[u8],
+    order: &[u32],
+    ways: &[usize],
+    line: u64,
+    trip: u64,
+    class: &[u8; 256],
+) -> usize
+    requires { ⌜ Ready tripStopsFile (now f8) (now order) (now ways) × (line < none) × (trip < none) × Classes (now class) ⌝ }
+    ensures { λ r. ⌜ Nth (now (f8 .entry)) line trip n r ⌝ }
+{
+    let up = trip % 2 == 1;
+    let mut places: [usize; 14] = [0; 14];
+    let mut i: u64 = 0;
+    let mut at = first_of(f8, order, ways, 0, line, trip);
+    while at < f8.len() {
+        if i == n {
+            return at;
+        }
+        cut(f8, at, 10, class, &mut places);
+        i += 1;
+        at = onward(8, f8, &places, order, ways, at, up, line, trip);
+    }
+    at
+}
+
+// inner: whether a record with a time comes behind the one at a place, in travel order
+pub fn timed_behind(
+    start: usize,
+    f8: &[u8],
+    order: &[u32],
+    ways: &[usize],
+    line: u64,
+    trip: u64,
+    class: &[u8; 256],
+) -> bool
+    requires { ⌜ PlaceIn tripStopsFile (now f8) start × (start < length (now f8)) × Ready tripStopsFile (now f8) (now order) (now ways) × (line < none) × (trip < none) × Classes (now class) ⌝ }
+    ensures { λ r. ⌜ r ≡ some timed (drop 1 (leftAt tripStopsFile (now (f8 .entry)) (goesUp trip) line trip start)) ⌝ }
+{
+    let up = trip % 2 == 1;
+    let mut places: [usize; 14] = [0; 14];
+    cut(f8, start, 10, class, &mut places);
+    let mut at = onward(8, f8, &places, order, ways, start, up, line, trip);
+    while at < f8.len() {
+        cut(f8, at, 10, class, &mut places);
+        let v = course::visit_of(f8, &places);
+        if v.arrives {
+            return true;
+        }
+        if v.departs {
+            return true;
+        }
+        at = onward(8, f8, &places, order, ways, at, up, line, trip);
+    }
+    false
+}
+
+// Whether one of the codes in texts `from` to `to` - 1 of a record that was cut has this sign.
+fn has_code(
+    x: u8,
+    file: u64,
+    s: &[u8],
+    places: &[usize; 14],
+    from: usize,
+    to: usize,
+    f3: &[u8],
+    order: &[u32],
+    ways: &[usize],
+    class: &[u8; 256],
+) -> bool
+    requires { ⌜ (x ≡ 0 → ⊥) × Kinded file (now s) (now places) × ((i : ℕ) → from ≤ i → i < to → CodeAt file (i + 1)) × (to ≤ 13) × Ready codesFile (now f3) (now order) (now ways) × Classes (now class) ⌝ }
+    ensures { λ r. ⌜ r ≡ isIn x (signsFrom (λ c. signIn (recordsIn (fieldsOf codesFile) (now (f3 .entry))) c) (from + 1) (to - from) (texts file (now (s .entry)) (now (places .entry)))) ⌝ }
+{
+    let mut i = from;
+    while i < to {
+        if code_sign(file, s, places, i, f3, order, ways, class) == x {
+            return true;
+        }
+        i += 1;
+    }
+    false
+}
+
+// Whether the line's stop that starts at a place of Zaslinky has this sign: its codes are fields 5-7.
+fn line_stop_has(
+    x: u8,
+    at: usize,
+    f7: &[u8],
+    f3: &[u8],
+    order: &[u32],
+    ways: &[usize],
+    class: &[u8; 256],
+) -> bool
+    requires { ⌜ (x ≡ 0 → ⊥) × PlaceIn 7 (now f7) at × (at < length (now f7)) × Ready 7 (now f7) (now order) (now ways) × Ready codesFile (now f3) (now order) (now ways) × Classes (now class) ⌝ }
+    ensures { λ r. ⌜ r ≡ isIn x (signsFrom (λ c. signIn (recordsIn (fieldsOf codesFile) (now (f3 .entry))) c) 5 3 (recordAt 7 (now (f7 .entry)) at)) ⌝ }
+{
+    let mut places: [usize; 14] = [0; 14];
+    cut(f7, at, 7, class, &mut places);
+    has_code(x, 7, f7, &places, 4, 7, f3, order, ways, class)
+}
+
+// The same of the line's stop of a trip's stop, which was cut.
+fn theirs_has(
+    x: u8,
+    f8: &[u8],
+    places: &[usize; 14],
+    f7: &[u8],
+    f3: &[u8],
+    order: &[u32],
+    ways: &[usize],
+    class: &[u8; 256],
+) -> bool
+    requires { ⌜ (x ≡ 0 → ⊥) × Kinded tripStopsFile (now f8) (now places) × Ready 7 (now f7) (now order) (now ways) × Ready codesFile (now f3) (now order) (now ways) × Classes (now class) ⌝ }
+    ensures { λ r. ⌜ r ≡ isIn x (signsFrom (λ c. signIn (recordsIn (fieldsOf codesFile) (now (f3 .entry))) c) 5 3 (lineStopAt (recordsIn (fieldsOf codesFile) (now (f3 .entry))) (recordsIn (fieldsOf 7) (now (f7 .entry))) (texts tripStopsFile (now (f8 .entry)) (now (places .entry))))) ⌝ }
+{
+    let line = value_of(part(f8, places, 0));
+    let tariff = value_of(part(f8, places, 2));
+    match by_two(7, f7, order, ways, 0, line, tariff) {
+        Found::At(at) => line_stop_has(x, at, f7, f3, order, ways, class),
+        Found::Nothing => false,
+    }
+}
+
+// inner: whether a trip's stop, whose record was cut, has this sign
+pub fn stop_has(
+    x: u8,
+    f8: &[u8],
+    places: &[usize; 14],
+    f7: &[u8],
+    f3: &[u8],
+    order: &[u32],
+    ways: &[usize],
+    class: &[u8; 256],
+) -> bool
+    requires { ⌜ (x ≡ 0 → ⊥) × Kinded tripStopsFile (now f8) (now places) × Ready 7 (now f7) (now order) (now ways) × Ready codesFile (now f3) (now order) (now ways) × Classes (now class) ⌝ }
+    ensures { λ r. ⌜ r ≡ isIn x (plainSigns (recordsIn (fieldsOf codesFile) (now (f3 .entry))) (recordsIn (fieldsOf 7) (now (f7 .entry))) (texts tripStopsFile (now (f8 .entry)) (now (places .entry)))) ⌝ }
+{
+    let first = part(f8, places, 5);
+    let second = part(f8, places, 6);
+    if first.len() + second.len() == 0 {
+        return theirs_has(x, f8, places, f7, f3, order, ways, class);
+    }
+    if has_code(x, 8, f8, places, 5, 7, f3, order, ways, class) {
+        return true;
+    }
+    if x != b'$' {
+        return false;
+    }
+    theirs_has(x, f8, places, f7, f3, order, ways, class)
+}

@@ -1,8 +1,8 @@
 /*
  * slovdrim.h: the C interface of Slovdrim, a proved library for Czech bus timetables in the JDF 1.8 format.
  *
- * This version reads and writes the bytes of one file of a batch, checks its fields, checks the keys, links and signs of a whole batch, and counts
- * days. Each call answers exactly what its comment says, for every input, or comes back with one numbered refusal; nothing is guessed and nothing
+ * This version reads and writes the bytes of one file of a batch, checks its fields, checks a whole batch, says on which days a trip of it runs and
+ * where and when it calls, and counts days. Each call answers exactly what its comment says, for every input, or comes back with one numbered refusal; nothing is guessed and nothing
  * is repaired.
  *
  * For all calls:
@@ -72,8 +72,11 @@ extern "C" {
 #define SLOVDRIM_KEY_USED 7         /* an earlier record of the file has this record's key; place: file, record */
 #define SLOVDRIM_LINK_TO_NOTHING 8  /* a link that no record of its file meets; place: file, record, field */
 #define SLOVDRIM_SIGN_NOT_PERMITTED 9 /* a code whose sign can't stand in this field; place: file, record, field */
+#define SLOVDRIM_DAYS_WRONG 10      /* a trip's time codes and day signs don't go together; place: file 6, record of the trip */
+#define SLOVDRIM_STOPS_WRONG 11     /* a trip's stops, times or kilometres are wrong; place: file 6, record of the trip */
 #define SLOVDRIM_NO_SUCH_DAY 12     /* a date that isn't real or not of 1900-2099, or a day number past SLOVDRIM_LAST_DAY; no place */
-#define SLOVDRIM_NO_SUCH 20         /* no such file, record or field; no place */
+#define SLOVDRIM_NO_SUCH_TRIP 13    /* no trip of this line and number; no place */
+#define SLOVDRIM_NO_SUCH 20         /* no such file, record, field or stop; no place */
 #define SLOVDRIM_TEXT_NOT_PERMITTED 21 /* the text can't stand in a field; no place */
 #define SLOVDRIM_NO_ROOM 22         /* the field doesn't fit into the buffer from the place on; no place */
 
@@ -227,18 +230,30 @@ slovdrim_fields_answer slovdrim_fields(uint64_t file, const uint8_t *bytes, size
  *   Altdop    X + 1 2 3 4 5 6 7
  */
 
+/*
+ * Trips.
+ *
+ * A trip's time codes are its records of Caskody, its day signs the signs X + 1 2 3 4 5 6 7 among its codes in Spoje. DAYS_WRONG: two of its typed time
+ * codes bear different marks; it has two different types out of 5, 6, 7, 8; type 1 with 7 or 8; type 3 with another type or with a day sign.
+ *
+ * A trip's stops are its records of Zasspoje, in travel order: by rising tariff number if the trip's number is odd, by falling if it is even, in
+ * whatever order they stand in the file. A time is HHMM. STOPS_WRONG unless at least two of them have a time; the first such has a departure, no
+ * arrival and kilometre 0; the last has an arrival; between them no record has both time fields empty, and one with a time has a departure; `|` and `<`
+ * stand between them only; times, arrival before departure, never fall, and kilometres never fall.
+ */
+
 typedef struct {
     uint64_t number;
     uint64_t file;
     uint64_t record;
     uint64_t field;
     uint64_t offset;
-} slovdrim_links_answer;
+} slovdrim_check_answer;
 
 /*
- * The first fault of a batch up to its keys, links and signs. The thirteen files are lent in their fixed order; a missing file is an empty one.
+ * The first fault of a batch. The thirteen files are lent in their fixed order; a missing file is an empty one.
  *
- *   SLOVDRIM_ANSWER              no refusal of these nine. What a trip's days and stops must be is not tried.
+ *   SLOVDRIM_ANSWER              there is none: the batch stands.
  *   SLOVDRIM_TOO_LONG            `file` is set.
  *   SLOVDRIM_NOT_LEGAL, SLOVDRIM_ENDS_INSIDE  `file` and `offset` are set.
  *   SLOVDRIM_WRONG_VERSION       `file` is 1; `record` and `field` are 1 if VerzeJDF has one record, else 0.
@@ -247,16 +262,17 @@ typedef struct {
  *   SLOVDRIM_KEY_USED            `file` and `record` are set: the later of the two records.
  *   SLOVDRIM_LINK_TO_NOTHING     `file`, `record` and `field` are set.
  *   SLOVDRIM_SIGN_NOT_PERMITTED  `file`, `record` and `field` are set.
+ *   SLOVDRIM_DAYS_WRONG, SLOVDRIM_STOPS_WRONG  `file` is 6, `record` that of the trip.
  *
  * The first that applies: TOO_LONG over all files; NOT_LEGAL and ENDS_INSIDE over all files; WRONG_VERSION; then files 2 to 13, record by record,
  * NOT_OF_ITS_KIND field by field and RULE_BROKEN after the fields; then again files 2 to 13, record by record, the key, and after it the fields in
- * their order, at one field LINK_TO_NOTHING before SIGN_NOT_PERMITTED.
+ * their order, at one field LINK_TO_NOTHING before SIGN_NOT_PERMITTED; then the trips in the order of Spoje, in each DAYS_WRONG before STOPS_WRONG.
  *
  * The time is n log n in the batch if the keys of each of the files 2 to 10 strictly rise from record to record. A file whose keys don't is searched
- * from its beginning for each link to it and for each record of its own; slovdrim_links_hinted is for such batches, and with a right list its
+ * from its beginning for each link to it and for each record of its own; slovdrim_check_hinted is for such batches, and with a right list its
  * time is n log n too.
  */
-slovdrim_links_answer slovdrim_links(const uint8_t *verzejdf, size_t verzejdf_length, const uint8_t *zastavky, size_t zastavky_length,
+slovdrim_check_answer slovdrim_check(const uint8_t *verzejdf, size_t verzejdf_length, const uint8_t *zastavky, size_t zastavky_length,
                                      const uint8_t *pevnykod, size_t pevnykod_length, const uint8_t *dopravci, size_t dopravci_length,
                                      const uint8_t *linky, size_t linky_length, const uint8_t *spoje, size_t spoje_length,
                                      const uint8_t *zaslinky, size_t zaslinky_length, const uint8_t *zasspoje, size_t zasspoje_length,
@@ -265,13 +281,13 @@ slovdrim_links_answer slovdrim_links(const uint8_t *verzejdf, size_t verzejdf_le
                                      const uint8_t *mistenky, size_t mistenky_length);
 
 /*
- * The same answer as slovdrim_links, for every list `order` of `count` numbers, whatever they are: they can make the call faster, and nothing else.
+ * The same answer as slovdrim_check, for every list `order` of `count` numbers, whatever they are: they can make the call faster, and nothing else.
  *
  * They do if they are these. For each of the files 2 to 10, in this order, whose keys do not strictly rise from record to record (compared by value,
  * the first field of the key before the second): the offset in the file at which each of its records begins, all records, in rising order of key and,
  * where keys are equal, of place. One file's offsets follow the other's; there are none for a file whose keys rise.
  */
-slovdrim_links_answer slovdrim_links_hinted(const uint8_t *verzejdf, size_t verzejdf_length, const uint8_t *zastavky, size_t zastavky_length,
+slovdrim_check_answer slovdrim_check_hinted(const uint8_t *verzejdf, size_t verzejdf_length, const uint8_t *zastavky, size_t zastavky_length,
                                             const uint8_t *pevnykod, size_t pevnykod_length, const uint8_t *dopravci, size_t dopravci_length,
                                             const uint8_t *linky, size_t linky_length, const uint8_t *spoje, size_t spoje_length,
                                             const uint8_t *zaslinky, size_t zaslinky_length, const uint8_t *zasspoje, size_t zasspoje_length,
@@ -371,7 +387,7 @@ SLOVDRIM_LAYOUT(sizeof(slovdrim_records_answer) == 48 && offsetof(slovdrim_recor
 SLOVDRIM_LAYOUT(sizeof(slovdrim_stretch_answer) == 56 && offsetof(slovdrim_stretch_answer, length) == 48, "layout of slovdrim_stretch_answer");
 SLOVDRIM_LAYOUT(sizeof(slovdrim_write_answer) == 16 && offsetof(slovdrim_write_answer, place) == 8, "layout of slovdrim_write_answer");
 SLOVDRIM_LAYOUT(sizeof(slovdrim_fields_answer) == 40 && offsetof(slovdrim_fields_answer, offset) == 32, "layout of slovdrim_fields_answer");
-SLOVDRIM_LAYOUT(sizeof(slovdrim_links_answer) == 40 && offsetof(slovdrim_links_answer, offset) == 32, "layout of slovdrim_links_answer");
+SLOVDRIM_LAYOUT(sizeof(slovdrim_check_answer) == 40 && offsetof(slovdrim_check_answer, offset) == 32, "layout of slovdrim_check_answer");
 SLOVDRIM_LAYOUT(sizeof(slovdrim_day_answer) == 16 && offsetof(slovdrim_day_answer, day) == 8, "layout of slovdrim_day_answer");
 SLOVDRIM_LAYOUT(sizeof(slovdrim_date_answer) == 32 && offsetof(slovdrim_date_answer, year) == 24, "layout of slovdrim_date_answer");
 SLOVDRIM_LAYOUT(sizeof(slovdrim_weekday_answer) == 16 && offsetof(slovdrim_weekday_answer, weekday) == 8, "layout of slovdrim_weekday_answer");

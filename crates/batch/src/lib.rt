@@ -61,8 +61,8 @@ pub enum Fault {
     Stops(u64),
 }
 
-// Whether there is none.
-fn is_none(f: Fault) -> bool
+// inner: whether there is none
+pub fn is_none(f: Fault) -> bool
     ensures { λ r. ⌜ r ≡ eqb (numberedFault f .number) 0 ⌝ }
 {
     match f {

@@ -1,0 +1,147 @@
+// Questions about a batch's trips. Each takes any bytes and any numbers, and checks the batch first.
+use batch::Fault;
+use batch::check_with;
+use batch::is_none;
+use file::classes;
+use trail::by_two;
+use trips::runs::trip_runs;
+use walk::Found;
+ghost use mathlib.Core.Path.{_≡_};
+ghost use Prim.Native.Nat.{_≤_};
+ghost use Rattle.file.specs.Files.{fieldsOf};
+ghost use Rattle.file.specs.Reader.{Classes};
+ghost use Rattle.file.specs.Records.{recordsIn};
+ghost use Rattle.field.specs.Names.{linesFile, timeCodesFile};
+ghost use Rattle.link.specs.Signs.{codesFile};
+ghost use Rattle.thirteen.specs.Batch.{thirteen};
+ghost use Rattle.coded.specs.Ready.{Ready};
+ghost use Rattle.trip.specs.Stage.{tripsFile};
+ghost use Rattle.counter.specs.Answers.{runsAnswer};
+ghost use Rattle.counter.specs.Numbers.{numberedRuns};
+ghost use Rattle.counter.specs.Plain.{LineMet, plainAnswer};
+
+// Whether a trip runs on a day.
+pub enum Runs {
+    // The batch's own refusal.
+    Refused(Fault),
+    // The day is none of the calendar's.
+    NoDay,
+    // There is no such trip.
+    NoTrip,
+    // It does.
+    Yes,
+    // It doesn't.
+    Not,
+}
+
+// Whether the trip, if there is one, runs on a day of the calendar.
+fn answer_runs(
+    line: u64,
+    trip: u64,
+    f3: &[u8],
+    f5: &[u8],
+    f6: &[u8],
+    f10: &[u8],
+    order: &[u32],
+    ways: &[usize],
+    class: &[u8; 256],
+    d: u64,
+    holidays: &[u64],
+) -> Runs
+    requires { ⌜ LineMet (recordsIn (fieldsOf linesFile) (now f5)) (recordsIn (fieldsOf tripsFile) (now f6)) line trip × Ready codesFile (now f3) (now order) (now ways) × Ready linesFile (now f5) (now order) (now ways) × Ready tripsFile (now f6) (now order) (now ways) × Ready timeCodesFile (now f10) (now order) (now ways) × Classes (now class) × (d ≤ 73048) ⌝ }
+    ensures { λ r. ⌜ numberedRuns r ≡ plainAnswer (recordsIn (fieldsOf codesFile) (now (f3 .entry))) (recordsIn (fieldsOf linesFile) (now (f5 .entry))) (recordsIn (fieldsOf tripsFile) (now (f6 .entry))) (recordsIn (fieldsOf timeCodesFile) (now (f10 .entry))) line trip d (now (holidays .entry)) ⌝ }
+{
+    if line >= 1000000000 {
+        return Runs::NoTrip;
+    }
+    if trip >= 1000000000 {
+        return Runs::NoTrip;
+    }
+    match by_two(6, f6, order, ways, 0, line, trip) {
+        Found::At(at) => {
+            if trip_runs(
+                at,
+                line,
+                trip,
+                f3,
+                f5,
+                f6,
+                f10,
+                order,
+                ways,
+                class,
+                d,
+                holidays,
+            ) {
+                Runs::Yes
+            } else {
+                Runs::Not
+            }
+        }
+        Found::Nothing => Runs::NoTrip,
+    }
+}
+
+// Whether a trip runs on a day, with a list of holidays. `order` is a hint and may hold anything: no answer depends on it.
+pub fn runs<'a>(
+    f1: &'a [u8],
+    f2: &'a [u8],
+    f3: &'a [u8],
+    f4: &'a [u8],
+    f5: &'a [u8],
+    f6: &'a [u8],
+    f7: &'a [u8],
+    f8: &'a [u8],
+    f9: &'a [u8],
+    f10: &'a [u8],
+    f11: &'a [u8],
+    f12: &'a [u8],
+    f13: &'a [u8],
+    order: &[u32],
+    line: u64,
+    trip: u64,
+    d: u64,
+    holidays: &[u64],
+) -> Runs
+    ensures { λ r. ⌜ numberedRuns r ≡ runsAnswer (thirteen (now (f1 .entry)) (now (f2 .entry)) (now (f3 .entry)) (now (f4 .entry)) (now (f5 .entry)) (now (f6 .entry)) (now (f7 .entry)) (now (f8 .entry)) (now (f9 .entry)) (now (f10 .entry)) (now (f11 .entry)) (now (f12 .entry)) (now (f13 .entry))) line trip d (now (holidays .entry)) ⌝ }
+{
+    let class = classes();
+    let mut ways: [usize; 33] = [0; 33];
+    let fault = check_with(
+        f1,
+        f2,
+        f3,
+        f4,
+        f5,
+        f6,
+        f7,
+        f8,
+        f9,
+        f10,
+        f11,
+        f12,
+        f13,
+        order,
+        &mut ways,
+        &class,
+    );
+    if !is_none(fault) {
+        return Runs::Refused(fault);
+    }
+    if d > 73048 {
+        return Runs::NoDay;
+    }
+    answer_runs(
+        line,
+        trip,
+        f3,
+        f5,
+        f6,
+        f10,
+        order,
+        &ways,
+        &class,
+        d,
+        holidays,
+    )
+}

@@ -4,3 +4,5 @@ pub mod Files
 pub mod FilesSettled
 pub mod Checks
 pub mod ChecksSettled
+pub mod Questions
+pub mod QuestionsSettled

@@ -33,7 +33,7 @@ fn found_in(number: u64, file: u64, row: u64, column: u64) -> CheckResult
 }
 
 // Document 01's number and place of a fault.
-fn handed(fault: Fault) -> CheckResult
+pub fn handed(fault: Fault) -> CheckResult
     ensures { λ r. ⌜ r ≡ checkResult (numberedFault fault) ⌝ }
 {
     match fault {

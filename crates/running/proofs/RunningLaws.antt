@@ -10,6 +10,7 @@ use borrow.Author.Tests.{eq-eqb, ne-eqb, eqb-true, eqb-false, lt-ltb, le-ltb, lt
 use Rattle.laws.specs.Tests.{pick, both, oneOf, either, never, clash}
 use Rattle.laws.specs.Below.{all, below}
 use Rattle.calendar.specs.Dates.{within}
+use Rattle.calendar.specs.Weeks.{weekday}
 use Rattle.calendar.specs.Signs.{isDaySign, signFits}
 use Rattle.file.specs.Files.{fieldsOf, fieldCounts}
 use Rattle.file.specs.Format.{Fields}
@@ -35,23 +36,24 @@ use Rattle.trail.specs.Lists.{some}
 use Rattle.trail.specs.Trail.{upward, ahead, stepOf, placeOf, Walks, Comes}
 use Rattle.trail.proofs.ListLaws.{All, all-select, all-rising}
 use Rattle.trail.proofs.TrailLaws.{ahead-begin, comes}
-use Rattle.trip.specs.Days.{typeOf, hasType, holdsDay, hasDaySign, threeWithOther, daysFit}
-use Rattle.trip.specs.Seen.{seenBehind, heldBehind, firstMark, differsFrom, marksDiffer, AllMeet}
+use Rattle.trip.specs.Days.{typeOf, hasType, holdsDay, hasDaySign, threeWithOther, daysFit, signsAllow}
+use Rattle.trip.specs.Seen.{bit, Flags, Seen, seenBehind, heldBehind, firstMark, differsFrom, marksDiffer, AllMeet}
 use Rattle.trip.specs.View.{signsFrom}
+use Rattle.trip.proofs.SeenLaws.{flags-new, flags-seen, seen-all}
+
+with-none : (t : Bool) → t ≡ oneOf t false
+with-none true = refl
+with-none false = refl
+
+with-one : (t : Bool) → true ≡ oneOf t true
+with-one true = refl
+with-one false = refl
 
 -- THE MARKS.
 -- one more time code comes
 module _ (first : ℕ) (differ : Bool) (r : Fields) where
   abbrev Marked : ℕ → Bool → Type 0
   Marked f d = (f ≡ firstMark first r) × (d ≡ oneOf differ (differsFrom first r))
-
-  with-none : (t : Bool) → t ≡ oneOf t false
-  with-none true = refl
-  with-none false = refl
-
-  with-one : (t : Bool) → true ≡ oneOf t true
-  with-one true = refl
-  with-one false = refl
 
   -- it has no type
   pub mark-none : typeOf r ≡ 0 → Marked first differ
@@ -188,6 +190,13 @@ module _ (s order ways : List ℕ) (ready : Ready timeCodesFile s order ways) wh
             (c .0, left-here ∙ ap (λ (rs : List Fields). texts timeCodesFile s places ∷ rs) (c .1))
 
 -- THE LISTS.
+-- the list behind one record, which may hold day d
+abbrev pub heldOn : ℕ → List ℕ → Fields → List ℕ
+heldOn d held r = pick (holdsDay d r) (set held (typeOf r) 1) held
+
+held-size : (d : ℕ) (held : List ℕ) (r : Fields) → length (heldOn d held r) ≡ length held
+held-size d held r = either (holdsDay d r) (λ t. rw t (length-set held (typeOf r) 1)) (λ t. rw t)
+
 -- a time code comes, the first of those that are left
 module _ (left : List Fields) (r : Fields) (rest : List Fields) (e : left ≡ r ∷ rest) where
   seen-step : (seen : List ℕ) (k : ℕ) → k ≡ typeOf r → seenBehind (set seen k 1) rest ≡ seenBehind seen left
@@ -199,13 +208,9 @@ module _ (left : List Fields) (r : Fields) (rest : List Fields) (e : left ≡ r 
   unfolding marksDiffer
   marks-step first differ f g a b = rw (e, a, b)
 
-  held-step : (d : ℕ) (held : List ℕ) (k : ℕ) → holdsDay d r ≡ true → k ≡ typeOf r → heldBehind d (set held k 1) rest ≡ heldBehind d held left
+  held-step : (d : ℕ) (held : List ℕ) → heldBehind d (heldOn d held r) rest ≡ heldBehind d held left
   unfolding heldBehind
-  held-step d held k h a = rw (e, h, a)
-
-  held-pass : (d : ℕ) (held : List ℕ) → holdsDay d r ≡ false → heldBehind d held rest ≡ heldBehind d held left
-  unfolding heldBehind
-  held-pass d held h = rw (e, h)
+  held-step d held = rw e
 
 -- the walk stands at `at`, and `near` is where it stood: what the list and the marks come to behind those that are left is what they come to
 -- behind all
@@ -260,18 +265,15 @@ module _ (s order ways : List ℕ) (ready : Ready timeCodesFile s order ways) (l
           marks = marks-step _ _ _ (w .1) first differ f g b c ∙ v .marks;
         }
 
-    -- it holds day d, or it doesn't
-    module _ (d : ℕ) (old held : List ℕ) (v : Holding s line trip d old held at) where
-      pub holding-set : holdsDay d (texts timeCodesFile s places) ≡ true → (k : ℕ) → k ≡ typeOf (texts timeCodesFile s places)
-          → Holding s line trip d old (set held k 1) next
-      holding-set q k a =
-          let w = left-turn s order ways ready line trip l t at (v .place) h cut next e in
-          record { place = w .0; size = length-set held k 1 ∙ v .size; types = held-step _ _ _ (w .1) d held k q a ∙ v .types }
-
-      pub holding-pass : holdsDay d (texts timeCodesFile s places) ≡ false → Holding s line trip d old held next
-      holding-pass q =
-          let w = left-turn s order ways ready line trip l t at (v .place) h cut next e in
-          record { place = w .0; size = v .size; types = held-pass _ _ _ (w .1) d held q ∙ v .types }
+    pub holding-next : (d : ℕ) (old held : List ℕ) → Holding s line trip d old held at → (new : List ℕ) → new ≡ heldOn d held (texts timeCodesFile s places)
+        → Holding s line trip d old new next
+    holding-next d old held v new a =
+        let r = texts timeCodesFile s places in
+        let w = left-turn s order ways ready line trip l t at (v .place) h cut next e in record {
+          place = w .0;
+          size = ap length a ∙ held-size d held r ∙ v .size;
+          types = ap (λ (x : List ℕ). heldBehind d x (leftAt s line trip next)) a ∙ held-step _ r _ (w .1) d held ∙ v .types;
+        }
 
   -- none is left
   pub typing-end : (old seen : List ℕ) (first : ℕ) (differ : Bool) (near at : ℕ) → Typing s line trip old seen first differ near at → length s ≤ at
@@ -302,35 +304,75 @@ trip-code i l h =
     let e : oneOf (ltb i 2) (codeKind (kindOf 6 (i + 1))) ≡ true = is-true _ (codes-there i h) in
     (rw (le-ltb i 2 l) at e, omega arith, omega arith)
 
--- a test that the sign of an empty code doesn't pass: whether one of the signs that are left passes it
-module _ (test : ℕ → Bool) (z : test 0 ≡ false) (sign : ℕ → ℕ) (r : Fields) where
-  abbrev pub signAt : ℕ → ℕ
-  signAt f = pick (isEmpty (field f r)) 0 (sign (value (field f r)))
+-- the sign of the code in field f; 0 if it is empty
+abbrev pub signAt : (ℕ → ℕ) → Fields → ℕ → ℕ
+signAt sign r f = pick (isEmpty (field f r)) 0 (sign (value (field f r)))
 
-  some-sign : (f n : ℕ) → some test (signsFrom sign f (suc n) r) ≡ oneOf (test (signAt f)) (some test (signsFrom sign (f + 1) n r))
+-- one of the signs from text i on passes a test
+abbrev pub signsLeft : (ℕ → Bool) → (ℕ → ℕ) → Fields → ℕ → Bool
+signsLeft test sign r i = some test (signsFrom sign (i + 1) (12 - i) r)
+
+-- 0, which stands for no sign, doesn't pass it
+module _ (test : ℕ → Bool) (z : test 0 ≡ false) (sign : ℕ → ℕ) (r : Fields) where
+  some-sign : (f n : ℕ) → some test (signsFrom sign f (suc n) r) ≡ oneOf (test (signAt sign r f)) (some test (signsFrom sign (f + 1) n r))
   unfolding some signsFrom
   some-sign f n = either (isEmpty (field f r)) (λ t. rw (t, z)) (λ t. rw t)
 
-  abbrev pub signsLeft : ℕ → Bool
-  signsLeft i = some test (signsFrom sign (i + 1) (12 - i) r)
-
-  module _ (i : ℕ) (h : i < 12) (x : ℕ) (e : x ≡ signAt (i + 1)) where
-    sign-next : signsLeft i ≡ oneOf (test x) (signsLeft (i + 1))
+  module _ (i : ℕ) (h : i < 12) (x : ℕ) (e : x ≡ signAt sign r (i + 1)) where
+    sign-next : signsLeft test sign r i ≡ oneOf (test x) (signsLeft test sign r (i + 1))
     sign-next =
         let n : 12 - i ≡ suc (12 - (i + 1)) = omega arith in
-        ap (λ (k : ℕ). some test (signsFrom sign (i + 1) k r)) n ∙ some-sign (i + 1) (12 - (i + 1)) ∙ ap (λ (k : ℕ). oneOf (test k) (signsLeft (i + 1))) (sym e)
+        ap (λ (k : ℕ). some test (signsFrom sign (i + 1) k r)) n
+        ∙ some-sign (i + 1) (12 - (i + 1))
+        ∙ ap (λ (k : ℕ). oneOf (test k) (signsLeft test sign r (i + 1))) (sym e)
 
-    pub sign-here : test x ≡ true → signsLeft i ≡ true
-    sign-here t = sign-next ∙ ap (λ (b : Bool). oneOf b (signsLeft (i + 1))) t
+    pub sign-here : test x ≡ true → signsLeft test sign r i ≡ true
+    sign-here t = sign-next ∙ ap (λ (b : Bool). oneOf b (signsLeft test sign r (i + 1))) t
 
-    pub sign-past : test x ≡ false → signsLeft i ≡ signsLeft (i + 1)
-    sign-past t = sign-next ∙ ap (λ (b : Bool). oneOf b (signsLeft (i + 1))) t
+    pub sign-past : test x ≡ false → signsLeft test sign r i ≡ signsLeft test sign r (i + 1)
+    sign-past t = sign-next ∙ ap (λ (b : Bool). oneOf b (signsLeft test sign r (i + 1))) t
 
-  pub sign-end : (i : ℕ) → 12 ≤ i → signsLeft i ≡ false
+  pub sign-end : (i : ℕ) → 12 ≤ i → signsLeft test sign r i ≡ false
   unfolding some signsFrom
   sign-end i h = let n : 12 - i ≡ 0 = omega arith in rw n
 
--- 0 is no day sign
+-- 0 is no day sign, and fits no day
 pub zero-no-sign : isDaySign 0 ≡ false
 unfolding isDaySign
 zero-no-sign = refl
+
+pub zero-fits-none : (d : ℕ) (holidays : List ℕ) → signFits 0 d holidays ≡ false
+unfolding signFits
+zero-fits-none d holidays = ne-eqb 0 (48 + weekday d) (λ z. omega arith)
+
+-- a sign fits day d, or none does
+module _ (signs : List ℕ) (d : ℕ) (holidays : List ℕ) where
+  pub signs-one : some (λ x. signFits x d holidays) signs ≡ true → true ≡ signsAllow signs d holidays
+  unfolding signsAllow
+  signs-one e = rw e (with-one (not (hasDaySign signs)))
+
+  pub signs-none : some (λ x. signFits x d holidays) signs ≡ false → (h : Bool) → h ≡ hasDaySign signs → not h ≡ signsAllow signs d holidays
+  unfolding signsAllow
+  signs-none e h a = rw (e, a) (with-none (not (hasDaySign signs)))
+
+-- REFUSAL 10.
+-- what the pass leaves
+module _ (codes : List Fields) (seen : List ℕ) (e : seen ≡ seenBehind (replicate 9 0) codes) where
+  pub left-flags : Flags seen
+  left-flags = rw e (flags-seen (replicate 9 0) codes flags-new)
+
+  pub left-seen : Seen codes seen
+  left-seen = rw e (seen-all codes)
+
+  -- where it saw no type 3, the signs aren't asked
+  pub signs-free : (day : List ℕ) → getD seen 3 0 ≡ 0 → daysFit [] codes ≡ daysFit day codes
+  unfolding daysFit threeWithOther
+  signs-free day z = rw (no-three (hasType 3 codes) (sym z ∙ left-seen .types 3 (omega arith) (omega arith)))
+    where
+      no-three : (t : Bool) → _≡_ {A = ℕ} 0 (bit t) → t ≡ false
+      no-three true h = absurd (omega arith)
+      no-three false h = refl
+
+pub no-day-sign : false ≡ hasDaySign []
+unfolding hasDaySign some
+no-day-sign = refl

@@ -37,9 +37,9 @@ use Rattle.trail.specs.Trail.{upward, ahead, stepOf, placeOf, Walks, Comes}
 use Rattle.trail.proofs.ListLaws.{All, all-select, all-rising}
 use Rattle.trail.proofs.TrailLaws.{ahead-begin, comes}
 use Rattle.trip.specs.Days.{typeOf, hasType, holdsDay, hasDaySign, threeWithOther, daysFit, signsAllow}
-use Rattle.trip.specs.Seen.{bit, Flags, Seen, seenBehind, heldBehind, firstMark, differsFrom, marksDiffer, AllMeet}
+use Rattle.trip.specs.Seen.{bit, Flags, Seen, Held, seenBehind, heldBehind, firstMark, differsFrom, marksDiffer, AllMeet}
 use Rattle.trip.specs.View.{signsFrom}
-use Rattle.trip.proofs.SeenLaws.{flags-new, flags-seen, seen-all}
+use Rattle.trip.proofs.SeenLaws.{flags-new, flags-seen, flags-held, seen-all, held-all}
 
 with-none : (t : Bool) → t ≡ oneOf t false
 with-none true = refl
@@ -193,6 +193,12 @@ module _ (s order ways : List ℕ) (ready : Ready timeCodesFile s order ways) wh
 -- the list behind one record, which may hold day d
 abbrev pub heldOn : ℕ → List ℕ → Fields → List ℕ
 heldOn d held r = pick (holdsDay d r) (set held (typeOf r) 1) held
+
+pub held-left : (d : ℕ) (held : List ℕ) (r : Fields) → holdsDay d r ≡ false → held ≡ heldOn d held r
+held-left d held r e = rw e
+
+pub held-marked : (d : ℕ) (held : List ℕ) (r : Fields) → holdsDay d r ≡ true → (k : ℕ) → k ≡ typeOf r → set held k 1 ≡ heldOn d held r
+held-marked d held r e k a = rw (e, a)
 
 held-size : (d : ℕ) (held : List ℕ) (r : Fields) → length (heldOn d held r) ≡ length held
 held-size d held r = either (holdsDay d r) (λ t. rw t (length-set held (typeOf r) 1)) (λ t. rw t)
@@ -372,6 +378,13 @@ module _ (codes : List Fields) (seen : List ℕ) (e : seen ≡ seenBehind (repli
       no-three : (t : Bool) → _≡_ {A = ℕ} 0 (bit t) → t ≡ false
       no-three true h = absurd (omega arith)
       no-three false h = refl
+
+module _ (d : ℕ) (codes : List Fields) (held : List ℕ) (e : held ≡ heldBehind d (replicate 9 0) codes) where
+  pub held-flags : Flags held
+  held-flags = rw e (flags-held d (replicate 9 0) codes flags-new)
+
+  pub left-held : Held d codes held
+  left-held = rw e (held-all d codes)
 
 pub no-day-sign : false ≡ hasDaySign []
 unfolding hasDaySign some

@@ -2,19 +2,17 @@
 use mathlib.Core.Path.{_≡_, refl, sym, ap, _∙_}
 use mathlib.Core.Bool.{Bool, true, false, not}
 use mathlib.Core.List.{List, [], _∷_, _++_}
-use Prim.Native.Nat.{ℕ, zero, suc, _+_, _-_, _≤_, _<_}
+use Prim.Native.Nat.{ℕ, suc, _+_, _-_, _≤_, _<_}
 use native.Mathlib.Omega.{arith}
-use lib.Dec.{T, eqb, leb, ltb}
+use lib.Dec.{T, eqb, ltb}
 use lib.ListN.{length, getD, drop, set, replicate, length-set}
-use borrow.Author.Tests.{eq-eqb, ne-eqb, eqb-true, eqb-false, lt-ltb, le-ltb, ltb-true, ltb-false}
-use Rattle.laws.specs.Tests.{pick, both, oneOf, either, never, clash}
-use Rattle.laws.specs.Below.{all, below}
-use Rattle.calendar.specs.Dates.{within}
+use borrow.Author.Tests.{eq-eqb, ne-eqb, lt-ltb, le-ltb, ltb-true, ltb-false}
+use Rattle.laws.specs.Tests.{pick, oneOf, either}
+use Rattle.laws.specs.Below.{below}
 use Rattle.calendar.specs.Weeks.{weekday}
 use Rattle.calendar.specs.Signs.{isDaySign, signFits}
 use Rattle.file.specs.Files.{fieldsOf, fieldCounts}
 use Rattle.file.specs.Format.{Fields}
-use Rattle.file.specs.Reader.{Classes}
 use Rattle.file.specs.Records.{recordsIn}
 use Rattle.field.specs.Kinds as kind
 use Rattle.field.specs.Kinds.{kinds, kindOf}
@@ -33,7 +31,7 @@ use Rattle.link.specs.Numeric.{codeKind, CodeAt}
 use Rattle.amiss.proofs.RecordLaws.{cut-kinded}
 use Rattle.coded.specs.Ready.{Ready}
 use Rattle.trail.specs.Lists.{some}
-use Rattle.trail.specs.Trail.{upward, ahead, stepOf, placeOf, Walks, Comes}
+use Rattle.trail.specs.Trail.{upward, ahead, stepOf, placeOf, Walks}
 use Rattle.trail.proofs.ListLaws.{All, all-select, all-rising}
 use Rattle.trail.proofs.TrailLaws.{ahead-begin, comes}
 use Rattle.trip.specs.Days.{typeOf, hasType, holdsDay, hasDaySign, threeWithOther, daysFit, signsAllow}

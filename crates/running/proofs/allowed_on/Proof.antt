@@ -1,5 +1,4 @@
 -- `running::allowed_on` meets its contract: the passes leave which types there are and which hold day d.
-use mathlib.Core.Path.{_≡_}
 use native.Mathlib.Omega.{arith}
 use borrow.Author.Needs.{needs}
 use Rattle.lines.proofs.LineLaws.{place-start}

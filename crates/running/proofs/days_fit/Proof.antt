@@ -1,5 +1,5 @@
 -- `running::days_fit` meets its contract: the pass leaves which types there are, and where there is no type 3 the signs aren't asked.
-use mathlib.Core.Path.{_≡_, _∙_}
+use mathlib.Core.Path.{_∙_}
 use mathlib.Core.List.{[]}
 use borrow.Author.Needs.{needs}
 use Rattle.trip.proofs.SeenLaws.{marks-are}
@@ -14,9 +14,11 @@ returns : tie.Need-returns
 returns c =
     let q = c .before .before .before .before in
     let start = q .before .before .before .before .before .before .before in
-    let e = q .types-of .ensures in
-    (c .days-fit .ensures [] _ (left-seen _ _ (e .0)) (e .1 ∙ marks-are _ (codes-meet _ _ _ (start .pre .4) _ _)) no-day-sign
-    ∙ signs-free _ _ (e .0) _ (c .before .before .if1 .taken), e .2)
+    let e = q .types-of .ensures in (
+      c .days-fit .ensures [] _ (left-seen _ _ (e .0)) (e .1 ∙ marks-are _ (codes-meet _ _ _ (start .pre .4) _ _)) no-day-sign
+          ∙ signs-free _ _ (e .0) _ (c .before .before .if1 .taken),
+      e .2,
+    )
 
 days-fit-requires-2 : tie.Need-days-fit-requires-2
 days-fit-requires-2 c κs = left-flags _ _ (c .before .before .before .before .types-of .ensures .0)

@@ -1,6 +1,6 @@
 -- `running::has_day_sign` meets its contract. The loop's invariant: whether one of the signs that are left is a day sign is whether one of all is.
 use mathlib.Core.Path.{_≡_, refl, sym, _∙_}
-use Prim.Native.Nat.{ℕ, _-_, _≤_}
+use Prim.Native.Nat.{_-_, _≤_}
 use native.Mathlib.Omega.{arith}
 use borrow.Author.Needs.{needs}
 use Rattle.calendar.specs.Signs.{isDaySign}
@@ -39,10 +39,12 @@ returns c =
 loop-again : tie.Need-loop-again Inv-loop μ-loop
 loop-again c =
     let k = c .before .before in
-    let l = k .before .before in
-    (omega arith, omega arith,
-    sym (sign-past (λ x. isDaySign x) zero-no-sign _ _ (l .loop .i) (k .before .loop-test .taken) _ (k .code-sign .ensures) (sym (c .before .is-day-sign .ensures) ∙ c .if1 .left))
-    ∙ l .loop .inv .2)
+    let l = k .before .before in (
+      omega arith,
+      omega arith,
+      sym (sign-past (λ x. isDaySign x) zero-no-sign _ _ (l .loop .i) (k .before .loop-test .taken) _ (k .code-sign .ensures) (sym (c .before .is-day-sign .ensures) ∙ c .if1 .left))
+          ∙ l .loop .inv .2,
+    )
 
 returns-2 : tie.Need-returns-2 Inv-loop μ-loop
 unfolding hasDaySign

@@ -1,6 +1,5 @@
 -- `running::held_on` meets its contract. The loop's invariant: what the list comes to behind the time codes that are left is what it comes to
 -- behind all.
-use Prim.Native.Nat.{ℕ}
 use native.Mathlib.Omega.{arith}
 use lib.ListN.{length}
 use Rattle.lines.proofs.LineLaws.{place-start}

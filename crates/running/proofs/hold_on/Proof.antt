@@ -1,5 +1,5 @@
 -- `running::hold_on` meets its contract: the type is marked only if the time code holds day d.
-use mathlib.Core.Path.{_≡_, sym, _∙_}
+use mathlib.Core.Path.{sym, _∙_}
 use borrow.Author.Needs.{needs}
 use denote.Ref.{now}
 use borrow.Author.Tests.{not-true, not-false}

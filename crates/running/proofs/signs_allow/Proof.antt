@@ -1,6 +1,6 @@
 -- `running::signs_allow` meets its contract. The loop's invariant: whether one of the signs that are left fits day d is whether one of all does.
 use mathlib.Core.Path.{_≡_, refl, sym, _∙_}
-use Prim.Native.Nat.{ℕ, _-_, _≤_}
+use Prim.Native.Nat.{_-_, _≤_}
 use native.Mathlib.Omega.{arith}
 use borrow.Author.Needs.{needs}
 use denote.Ref.{now}
@@ -47,10 +47,12 @@ loop-again c =
     let k = c .before .before in
     let l = k .before .before in
     let d = start l .args .d in
-    let holidays = now (start l .args .holidays) in
-    (omega arith, omega arith,
-    sym (sign-past (λ x. signFits x d holidays) (zero-fits-none d holidays) _ _ (l .loop .i) (k .before .loop-test .taken) _ (k .code-sign .ensures) (sym (c .before .sign-fits .ensures) ∙ c .if1 .left))
-    ∙ l .loop .inv .2)
+    let holidays = now (start l .args .holidays) in (
+      omega arith,
+      omega arith,
+      sym (sign-past (λ x. signFits x d holidays) (zero-fits-none d holidays) _ _ (l .loop .i) (k .before .loop-test .taken) _ (k .code-sign .ensures) (sym (c .before .sign-fits .ensures) ∙ c .if1 .left))
+          ∙ l .loop .inv .2,
+    )
 
 returns-2 : tie.Need-returns-2 Inv-loop μ-loop
 returns-2 c =

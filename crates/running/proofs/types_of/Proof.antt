@@ -1,9 +1,7 @@
 -- `running::types_of` meets its contract. The loop's invariant: what the list and the marks come to behind the time codes that are left is
 -- what they come to behind all.
-use Prim.Native.Nat.{ℕ}
 use native.Mathlib.Omega.{arith}
 use lib.ListN.{length}
-use denote.Ref.{now}
 use Rattle.running.proofs.RunningLaws.{leftAt, walks-at, record-there, cut-kinds, cut-meets, left-less, Typing, typing-start, typing-next, typing-end}
 use Rattle.running.proofs.types_of.Statement.{statement}
 use Rattle.running.proofs.types_of.Tie as tie
@@ -48,10 +46,11 @@ mark-on-requires c κs =
     let k = c .before .before .before in
     let q = k .before .before in
     let l = q .before in
-    let p = start l .pre in
-    (cut-kinds _ _ _ (p .0) _ _ (p .2) (p .3) _ (l .loop .inv .place) (q .loop-test .taken) (k .cut .ensures),
-    cut-meets _ _ _ (p .0) _ _ (p .2) (p .3) _ (l .loop .inv .place) (q .loop-test .taken) (k .cut .ensures),
-    c .before .type-of .ensures .0)
+    let p = start l .pre in (
+      cut-kinds _ _ _ (p .0) _ _ (p .2) (p .3) _ (l .loop .inv .place) (q .loop-test .taken) (k .cut .ensures),
+      cut-meets _ _ _ (p .0) _ _ (p .2) (p .3) _ (l .loop .inv .place) (q .loop-test .taken) (k .cut .ensures),
+      c .before .type-of .ensures .0,
+    )
 
 onward-requires : tie.Need-onward-requires Inv-loop μ-loop
 onward-requires c κs =

@@ -9,8 +9,8 @@ use walk::cut;
 ghost use mathlib.Core.Path.{_≡_};
 ghost use mathlib.Core.Bool.{true, false};
 ghost use Prim.Native.Nat.{_≤_, _<_};
-ghost use lib.ListN.{length};
-ghost use Rattle.laws.specs.Tests.{oneOf};
+ghost use lib.ListN.{length, set};
+ghost use Rattle.laws.specs.Tests.{pick, oneOf};
 ghost use Rattle.file.specs.Files.{fieldsOf};
 ghost use Rattle.file.specs.Reader.{Classes};
 ghost use Rattle.file.specs.Records.{recordsIn};
@@ -22,7 +22,7 @@ ghost use Rattle.link.specs.Signs.{signIn, codesFile};
 ghost use Rattle.rules.specs.Texts.{texts, Kinded};
 ghost use Rattle.coded.specs.Ready.{Ready};
 ghost use Rattle.trail.specs.Trail.{upward};
-ghost use Rattle.trip.specs.Days.{typeOf, hasDaySign, daysFit, signsAllow, codesAllow};
+ghost use Rattle.trip.specs.Days.{typeOf, holdsDay, hasDaySign, daysFit, signsAllow, codesAllow};
 ghost use Rattle.trip.specs.Seen.{seenBehind, heldBehind, firstMark, differsFrom, marksDiffer};
 ghost use Rattle.trip.specs.Stage.{tripsFile};
 ghost use Rattle.trip.specs.View.{signsFrom};
@@ -151,6 +151,18 @@ pub fn days_fit(
     }
 }
 
+// The list when one more time code comes, which was cut: its type is marked if it holds day d.
+fn hold_on(f10: &[u8], places: &[usize; 14], d: u64, held: &mut [u64])
+    requires { ⌜ Kinded timeCodesFile (now f10) (now places) × (9 ≤ length (now held)) ⌝ }
+    ensures { λ _. ⌜ now (held .exit) ≡ pick (holdsDay d (texts timeCodesFile (now (f10 .entry)) (now (places .entry)))) (set (now (held .entry)) (typeOf (texts timeCodesFile (now (f10 .entry)) (now (places .entry)))) 1) (now (held .entry)) ⌝ }
+{
+    if !codes::holds_day(f10, places, d) {
+        return;
+    }
+    let kind = codes::type_of(f10, places);
+    held[kind as usize] = 1;
+}
+
 // Of which types a trip's time code holds day d, each marked in the list.
 fn held_on(
     f10: &[u8],
@@ -169,10 +181,7 @@ fn held_on(
     let mut at = along(10, f10, order, ways, 0, true, line, trip, 0);
     while at < f10.len() {
         cut(f10, at, 8, class, &mut places);
-        if codes::holds_day(f10, &places, d) {
-            let kind = codes::type_of(f10, &places);
-            held[kind as usize] = 1;
-        }
+        hold_on(f10, &places, d, held);
         at = onward(10, f10, &places, order, ways, at, true, line, trip);
     }
 }

@@ -1,3 +1,4 @@
 pub mod PlainLaws
 pub mod ReadyLaws
 pub mod FaultLaws
+pub mod RunsLaws

@@ -1,32 +1,50 @@
+-- `trips::runs::trip_runs` meets its contract: the line's validity first, and then the signs and time codes of the record that is cut.
 use borrow.Author.Needs.{needs}
+use borrow.Author.Tests.{not-true, not-false}
+use denote.Ref.{now}
+use Rattle.file.specs.Files.{fieldsOf, fieldCounts}
+use Rattle.walk.proofs.WalkLaws.{cut-first}
+use Rattle.coded.proofs.LeftLaws.{left-here, left-kinded}
+use Rattle.trips.specs.Plain.{plainRuns}
 use Rattle.trips.proofs.runs.trip_runs.Statement.{statement}
 use Rattle.trips.proofs.runs.trip_runs.Tie as tie
-use Rattle.trips.proofs.runs.trip_runs.Reads as reads
-use Rattle.trips.proofs.runs.trip_runs.Lts as lts
-use Rattle.running.proofs.allowed_on.Reads as allowed-on-reads
-use Rattle.trips.proofs.runs.valid_on.Reads as valid-on-reads
-use Rattle.walk.proofs.cut.Reads as cut-reads
 
--- src/runs.rt:70:9
-valid-on-requires : tie.Need-valid-on-requires
-valid-on-requires c κs = search needs
-
--- src/runs.rt:71:9
 returns : tie.Need-returns
-returns c = ?
+unfolding plainRuns
+returns c =
+    let v = c .before in
+    rw (← v .valid-on .ensures, not-true (v .valid-on .result) (c .if1 .taken))
 
--- src/runs.rt:74:5
 cut-requires : tie.Need-cut-requires
-cut-requires c κs = ?
+unfolding fieldsOf fieldCounts
+cut-requires c κs =
+    let start = c .before .before .before .before .before .before .before .before .before .before in
+    (left-here 6 _ _ _ (start .pre .7) _ (start .pre .0) (start .pre .1), start .pre .9)
 
--- src/runs.rt:75:5
 allowed-on-requires : tie.Need-allowed-on-requires
-allowed-on-requires c κs = ?
+unfolding fieldsOf fieldCounts
+allowed-on-requires c κs =
+    let q = c .before in
+    let start = q .before .before .before .before .before .before .before .before .before .before .before in
+    let p = start .pre in
+    (left-kinded 6 _ _ _ (p .7) _ (p .0) (p .1) (q .cut .ensures), p .2, p .3, p .4, p .8, p .9, p .10)
 
--- src/runs.rt:53:1
 returns-2 : tie.Need-returns-2
-returns-2 c = ?
+unfolding plainRuns fieldsOf fieldCounts
+returns-2 c =
+    let q = c .before .before in
+    let e = q .before .before in
+    let v = e .before in
+    let start = v .before .before .before .before .before .before .before .before in
+    let first = cut-first 12 (now (start .args .f6)) (start .args .at) _ _ _ (q .cut .ensures) in
+    rw (← v .valid-on .ensures, not-false (v .valid-on .result) (e .if1 .left), first) (c .allowed-on .ensures)
 
 pub trip-runs-spec : {M : Type 1} → statement M
 trip-runs-spec =
-    tie.close (tie.spec valid-on-requires returns cut-requires allowed-on-requires returns-2)
+    tie.close
+    (tie.spec
+    (λ c κs. search needs)  -- valid-on-requires
+    returns
+    cut-requires
+    allowed-on-requires
+    returns-2)

@@ -1,36 +1,55 @@
+-- `trips::runs::valid_on` meets its contract: the record that is found by the line is the line's, and there is one.
+use mathlib.Core.Path.{refl, sym, ap, _∙_}
+use mathlib.Core.List.{[], _∷_}
 use borrow.Author.Needs.{needs}
+use denote.Ref.{now}
+use Rattle.file.specs.Files.{fieldsOf}
+use Rattle.file.specs.Format.{Fields}
+use Rattle.file.specs.Records.{recordsIn}
+use Rattle.keys.specs.Keys.{keyFields, keyTable}
+use Rattle.lines.proofs.LineLaws.{place-start}
+use Rattle.trip.specs.Days.{isValid}
+use Rattle.trips.proofs.RunsLaws.{found-line, found-some, line-found}
 use Rattle.trips.proofs.runs.valid_on.Statement.{statement}
 use Rattle.trips.proofs.runs.valid_on.Tie as tie
-use Rattle.trips.proofs.runs.valid_on.Reads as reads
-use Rattle.trips.proofs.runs.valid_on.Lts as lts
-use Rattle.trail.proofs.by_one.Reads as by-one-reads
-use Rattle.trips.proofs.runs.valid_at.Reads as valid-at-reads
 
--- src/runs.rt:46:11
 by-one-requires : tie.Need-by-one-requires
-by-one-requires c κs = ?
+unfolding keyFields keyTable
+by-one-requires c κs =
+    let start = c .before .before .before in
+    let k = start .pre .1 in
+    (k .size, k .way, place-start (fieldsOf 5) (now (start .args .f5)) (k .key .legal), refl, start .pre .0)
 
--- src/runs.rt:47:19
-enum-known-at : tie.Need-enum-known-at
-enum-known-at c = search needs
-
--- src/runs.rt:47:26
 valid-at-requires : tie.Need-valid-at-requires
-valid-at-requires c κs = ?
+valid-at-requires c κs =
+    let look = c .before .before .before in
+    let start = look .before .before .before .before in
+    let k = start .pre .1 in
+    let h = found-line (now (start .args .f5)) (start .args .line) _ (k .key) (start .pre .0) (sym (look .by-one .ensures) ∙ c .before .at .given .1) in
+    (k, h .0, h .1, start .pre .3)
 
--- src/runs.rt:48:27
-enum-told : tie.Need-enum-told
-enum-told c = search needs
-
--- src/runs.rt:42:1
 returns : tie.Need-returns
-returns c = ?
+returns c =
+    let look = c .before .before .before .before in
+    let start = look .before .before .before .before in
+    let a = start .args in
+    let e = line-found (now (a .f5)) (a .line) _ (start .pre .1 .key .legal) (sym (look .by-one .ensures) ∙ c .before .before .at .given .1) in
+    c .valid-at .ensures ∙ ap (λ (r : Fields). isValid r (a .d)) (sym e)
 
--- src/runs.rt:42:1
 returns-2 : tie.Need-returns-2
-returns-2 c = ?
+returns-2 c =
+    let look = c .before .before in
+    let start = look .before .before .before .before in
+    let a = start .args in
+    found-some 5 (a .line ∷ []) 0 (recordsIn (fieldsOf 5) (now (a .f5))) (start .pre .2) (sym (look .by-one .ensures) ∙ c .enum-told .given .1)
 
 pub valid-on-spec : {M : Type 1} → statement M
 valid-on-spec =
     tie.close
-    (tie.spec by-one-requires enum-known-at valid-at-requires enum-told returns returns-2)
+    (tie.spec
+    by-one-requires
+    (λ c. search needs)  -- enum-known-at
+    valid-at-requires
+    (λ c. search needs)  -- enum-told
+    returns
+    returns-2)

@@ -349,9 +349,24 @@ module _ (codes lineStops : List Fields) (r : Fields) (x : ℕ) where
   signs-theirs h = rw (own-none (λ c. signIn codes c) r h)
 
   -- one with a code has its own, and a `$` of the line's stop
-  pub signs-own : (length (field 6 r) + length (field 7 r) ≡ 0 → ⊥) → isIn x (plainSigns codes lineStops r) ≡ oneOf own (both (eqb x 36) theirs)
+  signs-own : (length (field 6 r) + length (field 7 r) ≡ 0 → ⊥) → isIn x (plainSigns codes lineStops r) ≡ oneOf own (both (eqb x 36) theirs)
   unfolding plainSigns
   signs-own h =
       let l = signsFrom (λ c. signIn codes c) 5 3 (lineStopAt codes lineStops r) in
       rw (own-some (λ c. signIn codes c) r h)
       (in-append x (signsFrom (λ c. signIn codes c) 6 2 r) (select (λ y. eqb y 36) l) ∙ rw (in-select x 36 l))
+
+  module _ (h : length (field 6 r) + length (field 7 r) ≡ 0 → ⊥) where
+    -- its own have it
+    pub signs-here : own ≡ true → isIn x (plainSigns codes lineStops r) ≡ true
+    signs-here e = signs-own h ∙ rw e
+
+    -- they don't, and it is no `$`
+    pub signs-other : own ≡ false → (x ≡ 36 → ⊥) → isIn x (plainSigns codes lineStops r) ≡ false
+    signs-other e d = signs-own h ∙ rw (e, ne-eqb x 36 d)
+
+    -- they don't, and it is a `$`
+    pub signs-dollar : own ≡ false → x ≡ 36 → isIn x (plainSigns codes lineStops r) ≡ theirs
+    signs-dollar e d =
+        let z : eqb x 36 ≡ true = eq-eqb x 36 d in
+        signs-own h ∙ rw (e, z)

@@ -8,17 +8,18 @@ use lib.Dec.{eqb}
 use lib.ListN.{length, drop, drop-of-length-le}
 use lib.Seq.{drop-drop}
 use borrow.Author.Tests.{eq-eqb, ne-eqb, eqb-true, eqb-false}
-use Rattle.laws.specs.Tests.{pick, both, oneOf, either, clash}
+use Rattle.laws.specs.Tests.{pick, both, oneOf, either}
 use Rattle.file.specs.Files.{fieldsOf, fieldCounts}
-use Rattle.file.specs.Format.{Text, Fields, writtenRecord}
+use Rattle.file.specs.Format.{Fields, writtenRecord}
 use Rattle.file.specs.Records.{recordsIn}
 use Rattle.field.specs.Kinds as kind
 use Rattle.field.specs.Kinds.{kinds, kindOf}
 use Rattle.field.specs.Names.{field}
 use Rattle.field.specs.Values.{isEmpty, value}
 use Rattle.walk.specs.Walk.{Cuts, LegalFrom}
+use Rattle.walk.specs.declared.Found.{Found}
 use Rattle.walk.specs.declared.Found.the-variants.{At, Nothing}
-use Rattle.walk.proofs.WalkLaws.{count-left, left-most}
+use Rattle.walk.proofs.WalkLaws.{cut-first, count-left, left-most}
 use Rattle.lines.proofs.OrderLaws.{found-place}
 use Rattle.keys.specs.Keys.{keyTable, keyFields, numbers, keyOf, same, firstWith, ofTrip, third, none}
 use Rattle.keys.specs.KeyFiles.{KeyFile, PlaceIn}
@@ -44,7 +45,7 @@ use Rattle.coded.specs.Ready.{Ready}
 use Rattle.coded.proofs.LeftLaws.{left-start, left-done, left-next}
 use Rattle.calling.specs.Calling.{travelled, goesUp, firstPlace}
 use Rattle.calling.proofs.CallingLaws.{three-numbers}
-use Rattle.halts.specs.Halts.{Nth, lineStopAt, plainSigns}
+use Rattle.halts.specs.Halts.{lineStopAt, plainSigns}
 
 -- THE WALK. Those that pass a test are no more than all.
 select-few : {A : Type 0} (test : A → Bool) (l : List A) → length (select test l) ≤ length l
@@ -223,6 +224,13 @@ line-stop-codes i h l =
     let z : i + 1 ≡ 7 = omega arith in
     rw z (code-kind 7 7 refl)))
 
+-- where its record was cut, its signs are those of the record at the place
+pub line-stop-signs : (sign : ℕ → ℕ) (x : ℕ) (s : List ℕ) (at : ℕ) {old places : List ℕ} {end : ℕ} → Cuts (fieldsOf 7) s at old places end → {y : Bool}
+    → y ≡ isIn x (signsFrom sign 5 3 (texts 7 s places)) → y ≡ isIn x (signsFrom sign 5 3 (recordAt 7 s at))
+line-stop-signs sign x s at c e =
+    let z = cut-first (fieldsOf 7) s at _ _ _ c in
+    rw z e
+
 -- those of Zasspoje are its texts 5 and 6
 pub trip-stop-codes : (i : ℕ) → 5 ≤ i → i < 7 → CodeAt 8 (i + 1)
 unfolding linkOf links link.zasspoje
@@ -272,22 +280,30 @@ module _ (codes : List Fields) (s : List ℕ) (r : Fields) (line tariff : ℕ) (
       (first-same [] (λ q. both (eqb (number 1 q) line) (eqb (number 2 q) tariff)) (λ q. same (keyOf 7 q) (line ∷ tariff ∷ [])) (stop-key line tariff) lineStops)
 
   -- found
-  module _ (f : KeyFile 7 s) (l : line < none) (t : tariff < none) (p : ℕ) (e : firstWith 7 (line ∷ tariff ∷ []) 0 lineStops ≡ At p) where
+  module _ (f : KeyFile 7 s) (l : line < none) (t : tariff < none) {found : Found} (look : found ≡ firstWith 7 (line ∷ tariff ∷ []) 0 lineStops) (p : ℕ) (d : found ≡ At p) where
+    there : firstWith 7 (line ∷ tariff ∷ []) 0 lineStops ≡ At p
+    there = sym look ∙ d
+
     pub stop-found : PlaceIn 7 s p × (p < length s)
     unfolding Small keyFields keyTable
     stop-found =
         let k = line ∷ tariff ∷ [] in
         let small : Small k = (l, (t, tt)) in
-        let q = found-place (fieldsOf 7) (rankOf 7) s (rank k) p (f .legal) (sym (first-with 7 k (f .keyed) small refl 0 lineStops (f .keys)) ∙ e) in
+        let q = found-place (fieldsOf 7) (rankOf 7) s (rank k) p (f .legal) (sym (first-with 7 k (f .keyed) small refl 0 lineStops (f .keys)) ∙ there) in
         (q .place, q .within)
 
-    pub stop-there : lineStopAt codes lineStops r ≡ recordAt 7 s p
-    stop-there = by-key ∙ first-found 7 s (line ∷ tariff ∷ []) p (f .legal) e
+    stop-is : lineStopAt codes lineStops r ≡ recordAt 7 s p
+    stop-is = by-key ∙ first-found 7 s (line ∷ tariff ∷ []) p (f .legal) there
+
+    pub stop-there : (x : ℕ) {y : Bool} → y ≡ isIn x (signsFrom (λ c. signIn codes c) 5 3 (recordAt 7 s p))
+        → y ≡ isIn x (signsFrom (λ c. signIn codes c) 5 3 (lineStopAt codes lineStops r))
+    stop-there x e = rw stop-is e
 
   -- not found: then there are no signs
-  pub stop-none : firstWith 7 (line ∷ tariff ∷ []) 0 lineStops ≡ Nothing → (sign : ℕ → ℕ) (x : ℕ) → isIn x (signsFrom sign 5 3 (lineStopAt codes lineStops r)) ≡ false
+  pub stop-none : {found : Found} → found ≡ firstWith 7 (line ∷ tariff ∷ []) 0 lineStops → found ≡ Nothing → (x : ℕ)
+      → false ≡ isIn x (signsFrom (λ c. signIn codes c) 5 3 (lineStopAt codes lineStops r))
   unfolding isIn signsFrom
-  stop-none e sign x = rw (by-key ∙ none-first (line ∷ tariff ∷ []) 0 lineStops e)
+  stop-none look d x = rw (by-key ∙ none-first (line ∷ tariff ∷ []) 0 lineStops (sym look ∙ d))
 
 -- THE SIGNS OF A STOP. One of two lists has it, and one of those that are selected.
 in-append : (x : ℕ) (a b : List ℕ) → isIn x (a ++ b) ≡ oneOf (isIn x a) (isIn x b)
@@ -344,9 +360,9 @@ module _ (codes lineStops : List Fields) (r : Fields) (x : ℕ) where
   theirs = isIn x (signsFrom (λ c. signIn codes c) 5 3 (lineStopAt codes lineStops r))
 
   -- a stop with no code of its own has the signs of the line's stop
-  pub signs-theirs : length (field 6 r) + length (field 7 r) ≡ 0 → isIn x (plainSigns codes lineStops r) ≡ theirs
+  pub signs-theirs : length (field 6 r) + length (field 7 r) ≡ 0 → {y : Bool} → y ≡ theirs → y ≡ isIn x (plainSigns codes lineStops r)
   unfolding plainSigns
-  signs-theirs h = rw (own-none (λ c. signIn codes c) r h)
+  signs-theirs h e = rw (own-none (λ c. signIn codes c) r h) e
 
   -- one with a code has its own, and a `$` of the line's stop
   signs-own : (length (field 6 r) + length (field 7 r) ≡ 0 → ⊥) → isIn x (plainSigns codes lineStops r) ≡ oneOf own (both (eqb x 36) theirs)
@@ -356,17 +372,22 @@ module _ (codes lineStops : List Fields) (r : Fields) (x : ℕ) where
       rw (own-some (λ c. signIn codes c) r h)
       (in-append x (signsFrom (λ c. signIn codes c) 6 2 r) (select (λ y. eqb y 36) l) ∙ rw (in-select x 36 l))
 
-  module _ (h : length (field 6 r) + length (field 7 r) ≡ 0 → ⊥) where
+  module _ (h : length (field 6 r) + length (field 7 r) ≡ 0 → ⊥) {o : Bool} (mine : o ≡ own) where
     -- its own have it
-    pub signs-here : own ≡ true → isIn x (plainSigns codes lineStops r) ≡ true
-    signs-here e = signs-own h ∙ rw e
+    pub signs-here : o ≡ true → true ≡ isIn x (plainSigns codes lineStops r)
+    signs-here e =
+        let z : own ≡ true = sym mine ∙ e in
+        rw (signs-own h, z)
 
     -- they don't, and it is no `$`
-    pub signs-other : own ≡ false → (x ≡ 36 → ⊥) → isIn x (plainSigns codes lineStops r) ≡ false
-    signs-other e d = signs-own h ∙ rw (e, ne-eqb x 36 d)
+    pub signs-other : o ≡ false → (x ≡ 36 → ⊥) → false ≡ isIn x (plainSigns codes lineStops r)
+    signs-other e d =
+        let z : own ≡ false = sym mine ∙ e in
+        rw (signs-own h, z, ne-eqb x 36 d)
 
     -- they don't, and it is a `$`
-    pub signs-dollar : own ≡ false → x ≡ 36 → isIn x (plainSigns codes lineStops r) ≡ theirs
-    signs-dollar e d =
-        let z : eqb x 36 ≡ true = eq-eqb x 36 d in
-        signs-own h ∙ rw (e, z)
+    pub signs-dollar : o ≡ false → x ≡ 36 → {y : Bool} → y ≡ theirs → y ≡ isIn x (plainSigns codes lineStops r)
+    signs-dollar e d g =
+        let z : own ≡ false = sym mine ∙ e in
+        let w : eqb x 36 ≡ true = eq-eqb x 36 d in
+        rw (signs-own h, z, w) g

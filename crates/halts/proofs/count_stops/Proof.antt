@@ -1,6 +1,6 @@
 -- `halts::count_stops` meets its contract. The loop's invariant: those that were counted and those that are left are the trip's records.
 use mathlib.Core.Path.{_≡_, ap}
-use Prim.Native.Nat.{ℕ, _+_}
+use Prim.Native.Nat.{_+_}
 use native.Mathlib.Omega.{arith}
 use denote.Ref.{now}
 use lib.ListN.{length}

@@ -1,16 +1,11 @@
 -- `halts::line_stop_has` meets its contract: the record that is cut is the one at the place, and its codes are its texts 4 to 6.
-use mathlib.Core.Path.{sym, ap, _∙_}
-use Prim.Native.Nat.{ℕ}
 use native.Mathlib.Omega.{arith}
 use denote.Ref.{now}
 use Rattle.file.specs.Files.{fieldsOf, fieldCounts}
-use Rattle.file.specs.Format.{Fields}
 use Rattle.file.specs.Records.{recordsIn}
-use Rattle.link.specs.Signs.{signIn, isIn}
-use Rattle.walk.proofs.WalkLaws.{cut-first}
-use Rattle.trip.specs.View.{signsFrom}
+use Rattle.link.specs.Signs.{signIn}
 use Rattle.coded.proofs.LeftLaws.{left-here, left-kinded}
-use Rattle.halts.proofs.HaltLaws.{line-stop-codes}
+use Rattle.halts.proofs.HaltLaws.{line-stop-codes, line-stop-signs}
 use Rattle.halts.proofs.line_stop_has.Statement.{statement}
 use Rattle.halts.proofs.line_stop_has.Tie as tie
 
@@ -36,8 +31,7 @@ returns c =
     let q = c .before .before in
     let start = q .before .before .before .before .before .before in
     let a = start .args in
-    let sign : ℕ → ℕ = λ k. signIn (recordsIn (fieldsOf 3) (now (a .f3))) k in
-    c .has-code .ensures ∙ ap (λ (r : Fields). isIn (a .x) (signsFrom sign 5 3 r)) (sym (cut-first 7 (now (a .f7)) (a .at) _ _ _ (q .cut .ensures)))
+    line-stop-signs (λ k. signIn (recordsIn (fieldsOf 3) (now (a .f3))) k) (a .x) (now (a .f7)) (a .at) (q .cut .ensures) (c .has-code .ensures)
 
 pub line-stop-has-spec : {M : Type 1} → statement M
 line-stop-has-spec = tie.close (tie.spec cut-requires has-code-requires returns)

@@ -1,7 +1,7 @@
 -- `halts::stop_has` meets its contract: a stop with no code of its own has the line's stop's signs, and one with a code its own and a `$` of the line's stop.
 use mathlib.Core.Path.{_≡_, sym, ap, _∙_}
 use mathlib.Core.List.{List}
-use Prim.Native.Nat.{ℕ, _+_}
+use Prim.Native.Nat.{_+_}
 use native.Mathlib.Omega.{arith}
 use borrow.Author.Needs.{needs}
 use denote.Ref.{now}
@@ -45,10 +45,14 @@ module _ (v : tie.After-part2) where
       let b = text-at (start .pre .1) 6 (omega arith) (v .part2 .ensures) in
       omega (arith, ap length a, ap length b)
 
+  -- one of them is given
+  given : (length (now (v .before .part .result)) + length (now (v .part2 .result)) ≡ 0 → ⊥) → length (field 6 cut) + length (field 7 cut) ≡ 0 → ⊥
+  given h z = h (sym sizes ∙ z)
+
 returns : tie.Need-returns
 returns c =
     let v = c .before .before in
-    c .theirs-has .ensures ∙ sym (signs-theirs (codes v) (lineStops v) (cut v) (start v .args .x) (sizes v ∙ c .before .if1 .taken))
+    signs-theirs (codes v) (lineStops v) (cut v) (start v .args .x) (sizes v ∙ c .before .if1 .taken) (c .theirs-has .ensures)
 
 has-code-requires : tie.Need-has-code-requires
 has-code-requires c κs =
@@ -59,14 +63,14 @@ returns-2 : tie.Need-returns-2
 returns-2 c =
     let e = c .before .before in
     let v = e .before in
-    sym (signs-here (codes v) (lineStops v) (cut v) (start v .args .x) (λ z. e .if1 .left (sym (sizes v) ∙ z)) (sym (c .before .has-code .ensures) ∙ c .if2 .taken))
+    signs-here (codes v) (lineStops v) (cut v) (start v .args .x) (given v (e .if1 .left)) (c .before .has-code .ensures) (c .if2 .taken)
 
 returns-3 : tie.Need-returns-3
 returns-3 c =
     let w = c .before .before in
     let e = w .before in
     let v = e .before in
-    sym (signs-other (codes v) (lineStops v) (cut v) (start v .args .x) (λ z. e .if1 .left (sym (sizes v) ∙ z)) (sym (w .has-code .ensures) ∙ c .before .if2 .left) (c .if3 .taken))
+    signs-other (codes v) (lineStops v) (cut v) (start v .args .x) (given v (e .if1 .left)) (w .has-code .ensures) (c .before .if2 .left) (c .if3 .taken)
 
 returns-4 : tie.Need-returns-4
 returns-4 c =
@@ -74,8 +78,7 @@ returns-4 c =
     let w = d .before .before in
     let e = w .before in
     let v = e .before in
-    c .theirs-has2 .ensures
-    ∙ sym (signs-dollar (codes v) (lineStops v) (cut v) (start v .args .x) (λ z. e .if1 .left (sym (sizes v) ∙ z)) (sym (w .has-code .ensures) ∙ d .before .if2 .left) (d .if3 .left))
+    signs-dollar (codes v) (lineStops v) (cut v) (start v .args .x) (given v (e .if1 .left)) (w .has-code .ensures) (d .before .if2 .left) (d .if3 .left) (c .theirs-has2 .ensures)
 
 pub stop-has-spec : {M : Type 1} → statement M
 stop-has-spec =

@@ -1,7 +1,6 @@
 -- `halts::theirs_has` meets its contract: the line's stop is looked for by the first and the third number of the record that was cut.
 use mathlib.Core.Path.{_≡_, sym, ap, _∙_}
 use Prim.Native.Nat.{ℕ, _<_}
-use mathlib.Core.List.{[], _∷_}
 use native.Mathlib.Omega.{arith}
 use borrow.Author.Needs.{needs}
 use denote.Ref.{now}
@@ -12,11 +11,9 @@ use Rattle.field.specs.Values.{value}
 use Rattle.lines.proofs.LineLaws.{place-start}
 use Rattle.keys.specs.Keys.{third, none}
 use Rattle.link.specs.Met.{number}
-use Rattle.link.specs.Signs.{signIn, isIn}
 use Rattle.rules.specs.Texts.{texts}
-use Rattle.amiss.proofs.RecordLaws.{Numeral, number-part, number-text}
+use Rattle.amiss.proofs.RecordLaws.{number-part, number-text}
 use Rattle.trail.proofs.NumberLaws.{Third, third-text}
-use Rattle.trip.specs.View.{signsFrom}
 use Rattle.calling.proofs.CallingLaws.{three-numbers}
 use Rattle.halts.proofs.HaltLaws.{line-number, two-numbers, stop-found, stop-there, stop-none}
 use Rattle.halts.proofs.theirs_has.Statement.{statement}
@@ -85,7 +82,7 @@ line-stop-has-requires c κs =
     let v = look .before in
     let a = start v .args in
     let p = start v .pre in
-    let w = stop-found (recordsIn (fieldsOf 3) (now (a .f3))) (now (a .f7)) (cut v) (line v) (tariff v) (line-is v) (tariff-is v) (p .2 .key) (line-small v) (tariff-small v) _ (sym (look .by-two .ensures) ∙ c .before .at .given .1) in
+    let w = stop-found (recordsIn (fieldsOf 3) (now (a .f3))) (now (a .f7)) (cut v) (line v) (tariff v) (line-is v) (tariff-is v) (p .2 .key) (line-small v) (tariff-small v) (look .by-two .ensures) _ (c .before .at .given .1) in
     (p .0, w .0, w .1, p .2, p .3, p .4)
 
 returns : tie.Need-returns
@@ -93,19 +90,14 @@ returns c =
     let look = c .before .before .before .before in
     let v = look .before in
     let a = start v .args in
-    let codes = recordsIn (fieldsOf 3) (now (a .f3)) in
-    let sign : ℕ → ℕ = λ k. signIn codes k in
-    c .line-stop-has .ensures
-    ∙ ap (λ (r : Fields). isIn (a .x) (signsFrom sign 5 3 r))
-    (sym (stop-there codes (now (a .f7)) (cut v) (line v) (tariff v) (line-is v) (tariff-is v) (start v .pre .2 .key) (line-small v) (tariff-small v) _ (sym (look .by-two .ensures) ∙ c .before .before .at .given .1)))
+    stop-there (recordsIn (fieldsOf 3) (now (a .f3))) (now (a .f7)) (cut v) (line v) (tariff v) (line-is v) (tariff-is v) (start v .pre .2 .key) (line-small v) (tariff-small v) (look .by-two .ensures) _ (c .before .before .at .given .1) (a .x) (c .line-stop-has .ensures)
 
 returns-2 : tie.Need-returns-2
 returns-2 c =
     let look = c .before .before in
     let v = look .before in
     let a = start v .args in
-    let codes = recordsIn (fieldsOf 3) (now (a .f3)) in
-    sym (stop-none codes (now (a .f7)) (cut v) (line v) (tariff v) (line-is v) (tariff-is v) (sym (look .by-two .ensures) ∙ c .enum-told .given .1) (λ k. signIn codes k) (a .x))
+    stop-none (recordsIn (fieldsOf 3) (now (a .f3))) (now (a .f7)) (cut v) (line v) (tariff v) (line-is v) (tariff-is v) (look .by-two .ensures) (c .enum-told .given .1) (a .x)
 
 pub theirs-has-spec : {M : Type 1} → statement M
 theirs-has-spec =

@@ -1,13 +1,11 @@
 -- `halts::timed_behind` meets its contract. The loop's invariant: whether one of those that are left has a time is whether one behind the first has.
 use mathlib.Core.Path.{_≡_, sym, ap, _∙_}
 use mathlib.Core.List.{List}
-use native.Mathlib.Omega.{arith}
 use denote.Ref.{now}
 use lib.ListN.{length, drop}
 use Rattle.file.specs.Files.{fieldsOf, fieldCounts}
 use Rattle.file.specs.Format.{Fields}
 use Rattle.keys.specs.KeyFiles.{PlaceIn}
-use Rattle.rules.specs.Texts.{texts}
 use Rattle.trail.specs.Lists.{some}
 use Rattle.trip.specs.Stops.{timed}
 use Rattle.coded.specs.Left.{leftAt}

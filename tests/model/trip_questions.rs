@@ -14,7 +14,7 @@ use crate::link::{Call, Link};
 use crate::links::{first_fault, Bytes};
 use crate::maker::Maker;
 use crate::plans::{any_mark, codes_of, coded, combinations, halt, is_day_sign, line_signs, own_signs, timetable, turn, Coded, Halt, Plan};
-use crate::trip_faults::{day_breaks, DayBreak, STOP_DAMAGE};
+use crate::trip_faults::{day_breaks, other_mark, DayBreak, STOP_DAMAGE};
 use crate::trip_met::{decided_by, told_of_stop};
 use crate::trips::{runs, Answers, Moment, DAY_RULES, STOP_RULES};
 
@@ -256,6 +256,36 @@ pub fn samples(link: &mut Link) {
     }
 }
 
+/// A trip for each set of types, each with one of six choices of day signs.
+fn of_sets(d: &mut Desk, i: usize, sets: &[(Vec<u8>, usize)], days: (usize, usize)) -> Vec<Plan> {
+    let mut all = plans(&mut d.m, sets.len(), 3, days);
+    for (plan, (kinds, k)) in all.iter_mut().zip(sets) {
+        plan.signs = some_signs(&mut d.m.r, i + k);
+        plan.signs.retain(|&s| !is_day_sign(s) || !kinds.contains(&b'3'));
+        let count = kinds.len() + d.m.r.below(3);
+        let of_codes = if d.m.r.one_in(2) { plan.valid } else { days };
+        plan.codes = codes_of(&mut d.m.r, kinds, count, of_codes);
+        fewer(&mut d.m.r, plan, 2);
+    }
+    all
+}
+
+/// The days of a trip with several lists of holidays: those that tell something, and if so wanted the whole year.
+fn ask_lists(d: &mut Desk, i: usize, plan: &Plan, days: (usize, usize), whole: bool) {
+    for j in 0..3 {
+        let list = some_holidays(&mut d.m.r, days, i + j);
+        let telling = telling_days(&mut d.m.r, plan, days, &list);
+        d.lend_holidays(list);
+        if j > 0 {
+            d.ask_plan_days(plan, &telling);
+        } else if whole {
+            d.ask_plan_days(plan, &around(days));
+        }
+    }
+    let day = days.0 as u64 + d.m.r.below(300) as u64;
+    d.ask_day(plan.line, plan.number, day);
+}
+
 /// Every permitted set of types, with day signs and without.
 pub fn permitted_days(link: &mut Link) {
     let mut d = Desk::new(link, 53);
@@ -263,32 +293,12 @@ pub fn permitted_days(link: &mut Link) {
     shuffle(&mut d.m.r, &mut sets);
     for (i, three) in sets.chunks(3).enumerate() {
         let days = year(&mut d.m, i);
-        let mut all = plans(&mut d.m, three.len(), 3, days);
-        for (plan, (kinds, k)) in all.iter_mut().zip(three) {
-            plan.signs = some_signs(&mut d.m.r, i + k);
-            plan.signs.retain(|&s| !is_day_sign(s) || !kinds.contains(&b'3'));
-            let count = kinds.len() + d.m.r.below(3);
-            let of_codes = if d.m.r.one_in(2) { plan.valid } else { days };
-            plan.codes = codes_of(&mut d.m.r, kinds, count, of_codes);
-            fewer(&mut d.m.r, plan, 2);
-        }
+        let all = of_sets(&mut d, i, three, days);
         let b = d.batch_of(all.clone(), i);
         let ways: Vec<String> = three.iter().map(|(kinds, _)| format!("types that go together: {}", shown(kinds))).collect();
         d.check(&b, FINE, &ways, Asked::Some(2));
         for (k, plan) in all.iter().enumerate() {
-            let list = some_holidays(&mut d.m.r, days, i + k);
-            d.lend_holidays(list);
-            if k == i % 3 {
-                d.ask_plan_days(plan, &around(days));
-            }
-            for j in 1..3 {
-                let list = some_holidays(&mut d.m.r, days, i + k + j);
-                let telling = telling_days(&mut d.m.r, plan, days, &list);
-                d.lend_holidays(list);
-                d.ask_plan_days(plan, &telling);
-            }
-            let day = days.0 as u64 + d.m.r.below(300) as u64;
-            d.ask_day(plan.line, plan.number, day);
+            ask_lists(&mut d, i + k, plan, days, k == i % 3);
         }
     }
 }
@@ -404,10 +414,10 @@ pub fn several_broken(link: &mut Link) {
     }
 }
 
-type Change = fn(&mut Random, &mut Plan);
+pub type Change = fn(&mut Random, &mut Plan);
 
 /// What looks like a fault and is none.
-const NEARLY: [(&str, Change); 14] = [
+pub const NEARLY: [(&str, Change); 14] = [
     ("all times equal", |_, p| each_time(p, |_| 600)),
     ("all times 0000", |_, p| each_time(p, |_| 0)),
     ("all times 2359", |_, p| each_time(p, |_| 1439)),
@@ -647,7 +657,35 @@ fn times_as_they_fall(r: &mut Random, plan: &mut Plan) {
     }
 }
 
-/// Trips with many stops and many codes: the fault in the last, or none.
+/// The check of trips with many stops and codes, one of them broken or none.
+fn check_large(d: &mut Desk, order: Order, all: Vec<Plan>, refusal: u64, at: usize) {
+    let (line, number) = (all[at].line, all[at].number);
+    let mut b = Batch::of_plans(&mut d.m, all);
+    b.arrange(&mut d.m.r, order);
+    let want = if refusal == 0 { FINE } else { of_trip(refusal, b.row_of_trip(line, number)) };
+    let asked = if order == Order::Rising { Asked::Some(1) } else { Asked::Right };
+    d.check(&b, want, &[format!("large trips: {}", refusal)], asked);
+    d.a.link.flush();
+}
+
+/// Another mark in the last of its codes, types that don't go together, a last time that falls.
+fn break_large(d: &mut Desk, order: Order, all: &[Plan]) {
+    let mut broken = all.to_vec();
+    let mark = other_mark(&mut d.m.r, &all[2].codes[0].mark);
+    broken[2].codes.push(coded(&mut d.m.r, b'1', &mark, all[2].valid));
+    check_large(d, order, broken, DAY_RULES, 2);
+    let mut broken = all.to_vec();
+    DayBreak::Types(b'1', b'7').put(&mut d.m.r, &mut broken[1]);
+    check_large(d, order, broken, DAY_RULES, 1);
+    let mut broken = all.to_vec();
+    let (_, _, falls) = STOP_DAMAGE.into_iter().find(|(name, _, _)| *name == "the last time before that of the record before").unwrap();
+    while falls(&mut d.m.r, &mut broken[1].halts).is_none() {
+        timetable(&mut d.m.r, &mut broken[1].halts);
+    }
+    check_large(d, order, broken, STOP_RULES, 1);
+}
+
+/// Trips with many stops and many codes.
 pub fn large_trips(link: &mut Link) {
     let mut d = Desk::new(link, 62);
     for (i, order) in [Order::Rising, Order::Shuffled, Order::Falling].into_iter().enumerate() {
@@ -656,33 +694,12 @@ pub fn large_trips(link: &mut Link) {
         for plan in &mut all {
             plan.codes = codes_of(&mut d.m.r, b"124", 60, days);
         }
-        let ask = |d: &mut Desk, all: Vec<Plan>, refusal: u64, at: usize| {
-            let (line, number) = (all[at].line, all[at].number);
-            let mut b = Batch::of_plans(&mut d.m, all);
-            b.arrange(&mut d.m.r, order);
-            let want = if refusal == 0 { FINE } else { of_trip(refusal, b.row_of_trip(line, number)) };
-            d.check(&b, want, &[format!("large trips: {}", refusal)], if order == Order::Rising { Asked::Some(1) } else { Asked::Right });
-        };
-        ask(&mut d, all.clone(), 0, 0);
+        check_large(&mut d, order, all.clone(), 0, 0);
         for plan in &all {
-            for nth in [1, 2, 75, 149, 150, 151] {
-                d.ask_stop(plan.line, plan.number, nth);
-            }
+            [1, 2, 75, 149, 150, 151].into_iter().for_each(|nth| d.ask_stop(plan.line, plan.number, nth));
             let telling = telling_days(&mut d.m.r, plan, days, &[]);
             d.ask_plan_days(plan, &telling[..8]);
         }
-        let mut broken = all.clone();
-        broken[2].codes.push(coded(&mut d.m.r, b'1', b"09", days));
-        broken[2].codes.last_mut().unwrap().mark = crate::trip_faults::other_mark(&mut d.m.r, &all[2].codes[0].mark);
-        ask(&mut d, broken, DAY_RULES, 2);
-        let mut broken = all.clone();
-        DayBreak::Types(b'1', b'7').put(&mut d.m.r, &mut broken[1]);
-        ask(&mut d, broken, DAY_RULES, 1);
-        let mut broken = all.clone();
-        while STOP_DAMAGE[14].2(&mut d.m.r, &mut broken[1].halts).is_none() {
-            timetable(&mut d.m.r, &mut broken[1].halts);
-        }
-        ask(&mut d, broken, STOP_RULES, 1);
-        d.a.link.flush();
+        break_large(&mut d, order, &all);
     }
 }

@@ -90,7 +90,7 @@ void give_words(const uint64_t *words, size_t count)
     give_bytes((const uint8_t *)words, count * sizeof *words);
 }
 
-void give_answers(uint64_t answers[PLACINGS][8], int count, size_t words)
+void give_answers(uint64_t answers[PLACINGS][WORDS], int count, size_t words)
 {
     uint64_t differs = 0;
     int i;
@@ -165,6 +165,11 @@ void about_to(const char *call, uint64_t a, uint64_t b, uint64_t c, int where, c
     now.length = length;
 }
 
+static int on_a_batch(const char *call)
+{
+    return strncmp(call, "slovdrim_check", 14) == 0 || strcmp(call, "slovdrim_runs") == 0 || strcmp(call, "slovdrim_trip_stop") == 0;
+}
+
 static void crashed(int sig, siginfo_t *info, void *context)
 {
     static const char *const place[] = {"against the page after it", "against the page before it", "as NULL"};
@@ -175,8 +180,8 @@ static void crashed(int sig, siginfo_t *info, void *context)
     for (i = 0; i < now.length && i < 200; i++)
         dprintf(2, " %02x", now.bytes[i]);
     dprintf(2, "%s\n", now.length > 200 ? " .." : "");
-    if (now.call != NULL && strncmp(now.call, "slovdrim_links", 14) == 0)
-        links_under_way();
+    if (now.call != NULL && on_a_batch(now.call))
+        batch_under_way();
     _exit(4);
 }
 
@@ -204,7 +209,7 @@ static struct room buffers[2];
 
 static void records_request(void)
 {
-    uint64_t file = take_word(), answers[PLACINGS][8];
+    uint64_t file = take_word(), answers[PLACINGS][WORDS];
     int i, n = placings(&file_bytes);
     for (i = 0; i < n; i++) {
         const uint8_t *bytes = lent_at(&file_bytes, i);
@@ -218,7 +223,7 @@ static void records_request(void)
 
 static void stretches_request(void)
 {
-    uint64_t file = take_word(), count = take_word(), answers[PLACINGS][8];
+    uint64_t file = take_word(), count = take_word(), answers[PLACINGS][WORDS];
     int i, n = placings(&file_bytes);
     while (count-- > 0) {
         uint64_t record = take_word(), field = take_word();
@@ -236,7 +241,7 @@ static void stretches_request(void)
 /* A length that no room holds: the bytes are there, all zero, and nothing has to be read to refuse them. */
 static void huge_request(void)
 {
-    uint64_t file = take_word(), length = take_word(), answers[PLACINGS][8];
+    uint64_t file = take_word(), length = take_word(), answers[PLACINGS][WORDS];
     uint8_t *bytes = mmap(NULL, length, PROT_READ, MAP_PRIVATE | MAP_ANONYMOUS | MAP_NORESERVE, -1, 0);
     slovdrim_records_answer a;
     slovdrim_stretch_answer b;
@@ -485,7 +490,7 @@ int main(void)
             give_words(&version, 1);
             break;
         default:
-            if (!days_request(letter) && !fields_request(letter) && !links_request(letter))
+            if (!days_request(letter) && !fields_request(letter) && !batch_request(letter) && !trips_request(letter))
                 give_up("a request that it doesn't know");
         }
     }

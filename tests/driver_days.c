@@ -5,11 +5,11 @@
 
 #include "../host/slovdrim.h"
 
-static struct lent holidays;
+struct lent holidays;
 
 static void day(void)
 {
-    uint64_t d = take_word(), m = take_word(), y = take_word(), answers[PLACINGS][8];
+    uint64_t d = take_word(), m = take_word(), y = take_word(), answers[PLACINGS][WORDS];
     slovdrim_day_answer a;
     about_to("slovdrim_day", d, m, y, 0, NULL, 0);
     a = slovdrim_day(d, m, y);
@@ -20,7 +20,7 @@ static void day(void)
 /* The three questions that take a day number alone, in one request. */
 static void of_a_day(void)
 {
-    uint64_t d = take_word(), answers[PLACINGS][8];
+    uint64_t d = take_word(), answers[PLACINGS][WORDS];
     slovdrim_date_answer date;
     slovdrim_weekday_answer weekday;
     slovdrim_week_answer week;
@@ -40,7 +40,7 @@ static void of_a_day(void)
 
 static void holiday(void)
 {
-    uint64_t d = take_word(), answers[PLACINGS][8];
+    uint64_t d = take_word(), answers[PLACINGS][WORDS];
     int i, n = placings(&holidays);
     for (i = 0; i < n; i++) {
         slovdrim_holiday_answer a;
@@ -54,7 +54,7 @@ static void holiday(void)
 
 static void fits(void)
 {
-    uint64_t sign = take_word(), d = take_word(), answers[PLACINGS][8];
+    uint64_t sign = take_word(), d = take_word(), answers[PLACINGS][WORDS];
     int i, n = placings(&holidays);
     for (i = 0; i < n; i++) {
         slovdrim_fits_answer a;

@@ -11,7 +11,7 @@
 
 static void fields(void)
 {
-    uint64_t file = take_word(), answers[PLACINGS][8];
+    uint64_t file = take_word(), answers[PLACINGS][WORDS];
     int i, n = placings(&file_bytes);
     for (i = 0; i < n; i++) {
         const uint8_t *bytes = lent_at(&file_bytes, i);
@@ -25,7 +25,7 @@ static void fields(void)
 
 static void fields_of_huge(void)
 {
-    uint64_t file = take_word(), length = take_word(), answers[PLACINGS][8];
+    uint64_t file = take_word(), length = take_word(), answers[PLACINGS][WORDS];
     uint8_t *bytes = mmap(NULL, length, PROT_READ, MAP_PRIVATE | MAP_ANONYMOUS | MAP_NORESERVE, -1, 0);
     slovdrim_fields_answer a;
     if (bytes == MAP_FAILED) {

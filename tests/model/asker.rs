@@ -8,6 +8,7 @@ use crate::generator::Random;
 use crate::hints::{right, wrong, EMPTY, KINDS, PLAIN, RIGHT};
 use crate::link::{Call, Link};
 use crate::links::{first_fault, too_long, Bytes};
+use crate::trips::{day_rules_broken, stop_rules_broken, trips, DAY_RULES, STOP_RULES};
 
 /// Which hints a batch is asked with.
 #[derive(Clone, Copy, PartialEq, Eq)]
@@ -61,7 +62,8 @@ impl<'a> Asker<'a> {
             }
             hints.extend([(PLAIN, Vec::new()), (EMPTY, Vec::new())].into_iter().chain(others));
         }
-        let (batch, ways) = (Arc::new(batch), Arc::new(ways.to_vec()));
+        let ways = [ways, &reasons(&batch, want)].concat();
+        let (batch, ways) = (Arc::new(batch), Arc::new(ways));
         for (kind, hint) in hints {
             if kind == PLAIN {
                 self.link.letter(b'K');
@@ -69,7 +71,7 @@ impl<'a> Asker<'a> {
                 self.lend_hint(&hint);
                 self.link.letter(b'k');
             }
-            self.link.expect(Call::Links { batch: batch.clone(), huge: None, hint: Arc::new(hint), kind, ways: ways.clone() }, &want);
+            self.link.expect(Call::Check { batch: batch.clone(), huge: None, hint: Arc::new(hint), kind, ways: ways.clone() }, &want);
         }
     }
 
@@ -84,7 +86,7 @@ impl<'a> Asker<'a> {
         self.link.word(huge.1);
         let (batch, ways) = (Arc::new(batch), Arc::new(ways.to_vec()));
         for kind in [PLAIN, KINDS[17]] {
-            self.link.expect(Call::Links { batch: batch.clone(), huge: Some(huge), hint: Arc::new(hint.to_vec()), kind, ways: ways.clone() }, &want);
+            self.link.expect(Call::Check { batch: batch.clone(), huge: Some(huge), hint: Arc::new(hint.to_vec()), kind, ways: ways.clone() }, &want);
         }
     }
 
@@ -108,6 +110,17 @@ impl<'a> Asker<'a> {
         let before = right(&bytes).unwrap_or_default();
         self.ask(bytes, want, ways, &before, asked);
     }
+}
+
+/// What the model finds wrong with a trip that is refused, for the run to count; whether it is alone or beside others.
+fn reasons(batch: &Bytes, want: Words) -> Vec<String> {
+    let broken: Vec<String> = match want {
+        [DAY_RULES, _, record, ..] => day_rules_broken(&trips(batch)[record as usize - 1]),
+        [STOP_RULES, _, record, ..] => stop_rules_broken(&trips(batch)[record as usize - 1]).iter().map(|s| s.to_string()).collect(),
+        _ => Vec::new(),
+    };
+    let alone = if broken.len() == 1 { "alone" } else { "beside others" };
+    broken.iter().map(|b| format!("{} {}: {}", want[0], alone, b)).collect()
 }
 
 fn shown(batch: &Bytes) -> String {

@@ -9,6 +9,9 @@ use crate::format::{ENDS_INSIDE, FIELDS, NOT_LEGAL, TOO_LONG};
 use crate::generator::Random;
 use crate::links::{Bytes, KEY_USED, LINK_TO_NOTHING, SIGN_NOT_PERMITTED, WRONG_VERSION};
 use crate::maker::Maker;
+use crate::plans::{any_mark, coded, is_day_sign};
+use crate::trip_faults::{day_breaks, other_mark, DayBreak, STOP_DAMAGE};
+use crate::trips::{DAY_RULES, STOP_RULES};
 
 pub type Words = [u64; 5];
 
@@ -43,6 +46,11 @@ pub fn not_permitted(file: u64, row: usize, field: usize) -> Words {
     [SIGN_NOT_PERMITTED, file, row as u64 + 1, field as u64, 0]
 }
 
+/// Refusals 10 and 11 of the trip in this record of Spoje.
+pub fn of_trip(number: u64, row: usize) -> Words {
+    [number, 6, row as u64 + 1, 0, 0]
+}
+
 /// Which of two refusals comes first: the stage, then the place.
 pub fn rank(want: &Words) -> [u64; 4] {
     let [number, file, record, field, _] = *want;
@@ -54,7 +62,8 @@ pub fn rank(want: &Words) -> [u64; 4] {
         6 => [4, file, record, 100],
         7 => [5, file, record, 0],
         8 => [5, file, record, 2 * field],
-        _ => [5, file, record, 2 * field + 1],
+        9 => [5, file, record, 2 * field + 1],
+        _ => [6, file, record, number],
     }
 }
 
@@ -151,7 +160,7 @@ pub fn dangling(r: &mut Random, b: &Batch, file: u64, row: usize, field: usize) 
     }
 }
 
-/// Record `row`, which nobody needs, gets the key of record `like`. The later of the two is refused.
+/// Record `row`, which nobody needs before the key is tried, gets the key of record `like`. The later of the two is refused.
 pub fn same_key(r: &mut Random, b: &Batch, file: u64, row: usize, like: usize, alike: bool) -> Fault {
     let fields = KEY_FIELDS[file as usize];
     let mut edits: Vec<(Cell, Vec<u8>)> = Vec::new();
@@ -165,11 +174,20 @@ pub fn same_key(r: &mut Random, b: &Batch, file: u64, row: usize, like: usize, a
     Fault::Edits { edits, leans_on: (1..=fields).map(|f| (file, like, f)).collect(), want: key_used(file, row.max(like)) }
 }
 
+/// What a permitted sign in a record leads to: a day sign can't stand beside type 3.
+pub fn with_sign(b: &Batch, file: u64, row: usize, sign: u8) -> Words {
+    if file == 6 && is_day_sign(sign) && b.has_type(b.key(6, row)[0], b.key(6, row)[1], b'3') {
+        of_trip(DAY_RULES, row)
+    } else {
+        FINE
+    }
+}
+
 /// A code with this sign in one field; permitted or not.
 pub fn signed(r: &mut Random, b: &Batch, file: u64, row: usize, field: usize, sign: u8) -> Fault {
     let stands = signs_for(file).contains(&sign);
     let mut edits = vec![((file, row, field), b.known.code_text(r, sign))];
-    let mut want = if stands { FINE } else { not_permitted(file, row, field) };
+    let mut want = if stands { with_sign(b, file, row, sign) } else { not_permitted(file, row, field) };
     if file == 8 {
         let other = 13 - field;
         let (text, other_sign) = match r.below(3) {
@@ -188,6 +206,50 @@ pub fn signed(r: &mut Random, b: &Batch, file: u64, row: usize, field: usize, si
     Fault::Edits { edits, leans_on: Vec::new(), want }
 }
 
+/// Two of a trip's Caskody records, and for a day sign its Spoje record, break a day rule. None for a trip that hasn't two.
+fn day_fault(m: &mut Maker, b: &Batch, row: usize) -> Option<Fault> {
+    let key = b.key(6, row);
+    let rows = b.rows_of_trip(10, key[0], key[1]);
+    if rows.len() < 2 {
+        return None;
+    }
+    let all = day_breaks();
+    let way = all[m.r.below(all.len())];
+    let [one, other] = way.kinds(&mut m.r);
+    let mark = any_mark(&mut m.r);
+    let other_mark = if other == 0 { other_mark(&mut m.r, &mark) } else { mark.clone() };
+    let mut edits = Vec::new();
+    for (at, kind, mark) in [(rows[0], one, mark), (rows[1], if other == 0 { one } else { other }, other_mark)] {
+        let days = m.days.len() - 1;
+        let record = coded(&mut m.r, kind, &mark, (0, days));
+        let texts = m.coded_texts(&record);
+        edits.extend((4..).zip(texts).map(|(field, text)| ((10, at, field), text)));
+    }
+    if let DayBreak::ThreeWith(sign) = way {
+        edits.push(((6, row, 3 + m.r.below(10)), b.known.code_text(&mut m.r, sign)));
+    }
+    let leans_on = vec![(6, row, 1), (6, row, 2), (10, rows[0], 1), (10, rows[0], 2), (10, rows[1], 1), (10, rows[1], 2)];
+    Some(Fault::Edits { edits, leans_on, want: of_trip(DAY_RULES, row) })
+}
+
+/// A trip's Zasspoje records break a stop rule, in a way that its stops give room for.
+fn stop_fault(m: &mut Maker, b: &Batch, row: usize) -> Option<Fault> {
+    let key = b.key(6, row);
+    let plan = b.plans.iter().find(|p| p.line == key[0] && p.number == key[1])?;
+    let mut halts = plan.halts.clone();
+    let damage = STOP_DAMAGE[m.r.below(STOP_DAMAGE.len())].2;
+    damage(&mut m.r, &mut halts)?;
+    let mut edits = Vec::new();
+    let mut leans_on = vec![(6, row, 1), (6, row, 2)];
+    for at in b.rows_of_trip(8, key[0], key[1]) {
+        let tariff = b.key(8, at)[2];
+        let h = halts.iter().find(|h| h.tariff == tariff)?;
+        edits.extend((8..).zip(m.halt_texts(h)).map(|(field, text)| ((8, at, field), text)));
+        leans_on.extend([(8, at, 1), (8, at, 2), (8, at, 3)]);
+    }
+    Some(Fault::Edits { edits, leans_on, want: of_trip(STOP_RULES, row) })
+}
+
 fn differing(b: &Batch, file: u64, row: usize, now: &[Vec<u8>]) -> Vec<(Cell, Vec<u8>)> {
     let before = b.texts(file, row);
     (1..=before.len()).filter(|&f| before[f - 1] != now[f - 1]).map(|f| ((file, row, f), now[f - 1].clone())).collect()
@@ -202,7 +264,8 @@ pub fn files_for(number: u64) -> Vec<u64> {
         6 => (2..=13).filter(|&f| !breaks(f).is_empty()).collect(),
         7 => (2..=10).collect(),
         8 => vec![2, 5, 6, 7, 8, 9, 10, 11, 12, 13],
-        _ => vec![2, 6, 7, 8, 11],
+        9 => vec![2, 6, 7, 8, 11],
+        _ => vec![6],
     }
 }
 
@@ -234,10 +297,9 @@ pub fn fault(m: &mut Maker, b: &Batch, number: u64, file: u64, row: Option<usize
             Fault::Edits { edits: differing(b, file, at, &now), leans_on, want: [RULE_BROKEN, file, at as u64 + 1, 0, 0] }
         }
         7 => {
-            let free = |r: usize| !b.files[file as usize][r].needed;
             let pairs: Vec<(usize, usize)> = (0..count)
                 .flat_map(|i| (0..count).map(move |j| (i, j)))
-                .filter(|&(i, j)| i != j && free(i) && (row.is_none() || i.max(j) == at))
+                .filter(|&(i, j)| i != j && b.free(file, i) && (row.is_none() || i.max(j) == at))
                 .collect();
             if pairs.is_empty() {
                 return None;
@@ -251,6 +313,8 @@ pub fn fault(m: &mut Maker, b: &Batch, number: u64, file: u64, row: Option<usize
             let field = fields[m.r.below(fields.len())];
             dangling(&mut m.r, b, file, at, field)
         }
+        10 => return day_fault(m, b, at),
+        11 => return stop_fault(m, b, at),
         _ => {
             let fields = code_fields(file);
             let field = fields[m.r.below(fields.len())];

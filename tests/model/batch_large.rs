@@ -118,5 +118,5 @@ pub fn longest(link: &mut Link) {
     a.lend(&b.bytes());
     a.lend_hint(&hint);
     a.link.letter(b'k');
-    a.link.expect(Call::Links { batch: Arc::new(b.bytes()), huge: None, hint: Arc::new(hint), kind: KINDS[9], ways: Arc::new(Vec::new()) }, &FINE);
+    a.link.expect(Call::Check { batch: Arc::new(b.bytes()), huge: None, hint: Arc::new(hint), kind: KINDS[9], ways: Arc::new(Vec::new()) }, &FINE);
 }

@@ -1,4 +1,4 @@
-//! Two faults in one batch: the order of the refusals 1 to 9.
+//! Two faults in one batch: the order of the refusals 1 to 11.
 
 use crate::asker::{Asked, Asker};
 use crate::batch_faults::{apart, fault, files_for, finish, rank, Fault, Words};
@@ -31,12 +31,12 @@ fn pair_name(first: &Words, second: &Words) -> String {
 
 /// Two faults in one batch, of all numbers and in all places to each other.
 pub fn two_faults(link: &mut Link) {
-    let mut m = Maker::new(42);
+    let mut m = Maker::new(63);
     let mut a = Asker::new(link, 42);
-    for i in 0..2600 {
+    for i in 0..3000 {
         let b = Batch::arranged(&mut m, &SMALL, ORDERS[i % 5]);
-        // half of the pairs are of keys, links and signs alone
-        let (least, many) = if i % 2 == 0 { (7, 3) } else { (1, 9) };
+        // half of the pairs are of keys, links, signs and trips alone
+        let (least, many) = if i % 2 == 0 { (7, 5) } else { (1, 11) };
         let (one, two) = ((least + m.r.below(many)) as u64, (least + m.r.below(many)) as u64);
         let files = files_for(one);
         let file = files[m.r.below(files.len())];
@@ -69,14 +69,17 @@ pub fn two_faults(link: &mut Link) {
 pub fn pairs() -> Vec<String> {
     let stage = |n: u64| rank(&[n, 2, 1, 1, 0])[0];
     let mut all = Vec::new();
-    for first in 1..=9u64 {
-        for second in 1..=9u64 {
+    for first in 1..=11u64 {
+        for second in 1..=11u64 {
             let relations: &[&str] = match (first, second) {
                 _ if stage(first) > stage(second) => &[],
                 (1, 1) => &["later file"],
                 (4, 4) => &[],
                 (1, 4) => &["earlier file"],
                 (2 | 3, 4) => &["earlier file", "same file"],
+                (6, 10 | 11) => &["earlier file", "later file"],
+                (10, 11) => &["same record", "later record"],
+                (10 | 11, _) => &["later record"],
                 (4, _) => &["later file"],
                 (1, _) => &["earlier file", "later file"],
                 (2 | 3, 2 | 3) => &["later file"],

@@ -1,14 +1,15 @@
-//! The questions on keys, links and signs: batches that stand, then faults put in on purpose, one by one.
+//! The questions on the check, as to keys, links and signs: batches that stand, then faults put in on purpose, one by one.
 
 use crate::asker::{way, Asked, Asker};
-use crate::batch_faults::{dangling, key_used, linked_fields, not_permitted, plain_links, same_key, signed, to_nothing, Fault, Words, FINE};
-use crate::batches::{code_fields, line_text, number, signs_for, written, written_for, Batch, Order, KEY_FIELDS, ORDERS, SMALL};
+use crate::batch_faults::{dangling, key_used, linked_fields, not_permitted, of_trip, plain_links, same_key, signed, to_nothing, with_sign, Fault, Words, FINE};
+use crate::batches::{code_fields, line_text, number, signs_for, written, written_for, Batch, Order, Row, KEY_FIELDS, ORDERS, SMALL};
 use crate::fields::{name_of, SIGNS};
 use crate::format::{writing, ENDS_INSIDE, NOT_LEGAL};
 use crate::hints::right;
 use crate::link::Link;
 use crate::links::{first_fault, Bytes, WRONG_VERSION};
 use crate::maker::Maker;
+use crate::trips::STOP_RULES;
 
 /// First, last or another record of so many.
 fn places(m: &mut Maker, count: usize) -> [usize; 3] {
@@ -24,19 +25,20 @@ pub fn samples(link: &mut Link) {
 pub fn standing(link: &mut Link) {
     let mut m = Maker::new(32);
     let mut a = Asker::new(link, 32);
-    let nothing = Batch { files: vec![Vec::new(); 14], known: Default::default() };
+    let nothing = Batch { files: vec![Vec::new(); 14], known: Default::default(), plans: Vec::new() };
     a.ask_batch(&nothing, [WRONG_VERSION, 1, 0, 0, 0], &way("nothing at all"), Asked::All);
     for i in 0..250 {
         let order = ORDERS[i % 5];
         let b = Batch::arranged(&mut m, &SMALL, order);
         a.ask_batch(&b, FINE, &way("it stands"), Asked::All);
     }
-    // Down from the last file: what is left stands, since nothing links to what was taken away, but for Pevnykod at last.
+    // Down from the last file: what is left stands, since nothing links to what was taken away, but for Pevnykod at last; and trips need their stops.
     for order in ORDERS {
         let mut b = Batch::arranged(&mut m, &SMALL, order);
         for file in [13, 12, 11, 10, 9, 8, 7, 6, 5, 4] {
             b.files[file].clear();
-            a.ask_batch(&b, FINE, &way("it stands"), Asked::All);
+            let (want, name) = if file == 8 || file == 7 { (of_trip(STOP_RULES, 0), "trips without stops") } else { (FINE, "it stands") };
+            a.ask_batch(&b, want, &way(name), Asked::All);
         }
         b.files[2].clear();
         a.ask_batch(&b, FINE, &way("it stands"), Asked::All);
@@ -69,7 +71,11 @@ pub fn missing_files(link: &mut Link) {
         for file in 1..=13 {
             let mut b = Batch::arranged(&mut m, &SMALL, order);
             b.files[file].clear();
-            let want = if file == 1 { [WRONG_VERSION, 1, 0, 0, 0] } else { first_link_to(&b, file as u64) };
+            let want = match file {
+                1 => [WRONG_VERSION, 1, 0, 0, 0],
+                8 => of_trip(STOP_RULES, 0),
+                _ => first_link_to(&b, file as u64),
+            };
             a.ask_batch(&b, want, &way("a file is missing"), Asked::All);
         }
     }
@@ -115,7 +121,7 @@ pub fn keys(link: &mut Link) {
         for i in 0..40 {
             let b = Batch::arranged(&mut m, &SMALL, ORDERS[i % 5]);
             let count = b.count(file);
-            let free: Vec<usize> = (0..count).filter(|&row| !b.files[file as usize][row].needed).collect();
+            let free: Vec<usize> = (0..count).filter(|&row| b.free(file, row)).collect();
             let row = free[m.r.below(free.len())];
             let (like, name) = match i / 5 % 3 {
                 0 => (if row + 1 < count && (row == 0 || m.r.one_in(2)) { row + 1 } else { row - 1 }, "near"),
@@ -146,6 +152,14 @@ pub fn keys(link: &mut Link) {
         for field in 2..=KEY_FIELDS[file as usize] {
             for i in 0..5 {
                 let mut b = Batch::arranged(&mut m, &SMALL, ORDERS[i]);
+                let mut want = FINE;
+                if file == 6 {
+                    // one trip more, which has no stops
+                    let (from, to) = (m.r.below(b.count(6)), m.r.below(b.count(6) + 1));
+                    let copy = Row { needed: false, ..b.files[6][from].clone() };
+                    b.files[6].insert(to, copy);
+                    want = of_trip(STOP_RULES, to);
+                }
                 let row = b.files[file as usize].iter().position(|r| !r.needed).unwrap();
                 let keys: Vec<Vec<u64>> = (0..b.count(file)).map(|r| b.key(file, r)).collect();
                 let own = keys[row].clone();
@@ -156,7 +170,7 @@ pub fn keys(link: &mut Link) {
                 });
                 if let (Some(n), true) = (other, file != 8 && (file != 10 || field == 3)) {
                     b.files[file as usize][row].texts[field - 1] = written(&mut m.r, n, 9);
-                    a.ask_batch(&b, FINE, &way("half a key twice"), Asked::All);
+                    a.ask_batch(&b, want, &way("half a key twice"), Asked::All);
                 }
             }
         }
@@ -205,11 +219,12 @@ pub fn codes(link: &mut Link) {
                 // a code that nobody needs becomes 0
                 let row = b.files[3].iter().position(|r| !r.needed).unwrap();
                 b.files[3][row].texts[0] = vec![b'0'; 1 + m.r.below(5)];
-                b.files[3][row].texts[1] = vec![m.r.pick(&signs_for(file))];
+                let sign = m.r.pick(&signs_for(file));
+                b.files[3][row].texts[1] = vec![sign];
                 if file == 8 {
                     b.files[8][at].texts[12 - field] = Vec::new();
                 }
-                a.ask_batch(&b, FINE, &[format!("{} {}: code 0, there", name_of(file), field)], Asked::All);
+                a.ask_batch(&b, with_sign(&b, file, at, sign), &[format!("{} {}: code 0, there", name_of(file), field)], Asked::All);
             }
         }
         // no record has a code

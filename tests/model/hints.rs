@@ -4,7 +4,7 @@ use crate::batches::shuffle;
 use crate::generator::Random;
 use crate::links::{keys_and_places, Bytes};
 
-/// All kinds of hints; a run must meet each with 0, 7, 8 and 9.
+/// All kinds of hints; a run must meet each with 0 and 7 to 11.
 pub const KINDS: [&str; 18] = [
     "the plain call",
     "no numbers",

@@ -33,7 +33,10 @@ pub enum Call {
     Fields { file: u64, bytes: Arc<Vec<u8>>, aims: Vec<Aim> },
     HugeFields { file: u64, length: u64 },
     /// `huge`: a file that is so many zero bytes instead. `kind`: of the hint. `ways`: what the batch was made for.
-    Links { batch: Arc<Bytes>, huge: Option<(u64, u64)>, hint: Arc<Vec<u32>>, kind: &'static str, ways: Arc<Vec<String>> },
+    Check { batch: Arc<Bytes>, huge: Option<(u64, u64)>, hint: Arc<Vec<u32>>, kind: &'static str, ways: Arc<Vec<String>> },
+    /// `ways`: what decided the answer.
+    Runs { batch: Arc<Bytes>, line: u64, trip: u64, day: u64, holidays: Arc<Vec<u64>>, ways: Vec<String> },
+    TripStop { batch: Arc<Bytes>, line: u64, trip: u64, nth: u64, ways: Vec<String> },
 }
 
 /// What a question on the fields of a file was made for; the run counts how often each met each number.
@@ -68,7 +71,7 @@ pub struct Report {
     pub aims: BTreeMap<(u64, u64, Aim), u64>,
     /// Of whole batches, each counted once: by number, file and field.
     pub places: BTreeMap<(u64, u64, u64), u64>,
-    /// Of whole batches, each counted once: by what it was made for.
+    /// Of whole batches, each counted once, by what it was made for; of questions on trips, by what decided them.
     pub ways: BTreeMap<String, u64>,
     /// Sweeps whose digests differ, to be looked at more closely.
     pub sweeps: Vec<Swept>,
@@ -122,6 +125,18 @@ fn hex(bytes: &[u8]) -> String {
     s
 }
 
+/// The files of a batch, a line each.
+fn told_files(batch: &Bytes, huge: Option<(u64, u64)>) -> String {
+    let mut s = String::new();
+    for (file, bytes) in (1..).zip(batch.iter()) {
+        match huge {
+            Some((f, length)) if f == file => write!(s, "\n  file {} {} zero bytes", file, length).unwrap(),
+            _ => write!(s, "\n  file {} {}", file, hex(bytes)).unwrap(),
+        }
+    }
+    s
+}
+
 impl Call {
     fn name(&self) -> &'static str {
         match self {
@@ -138,8 +153,10 @@ impl Call {
             Call::Holiday { .. } => "slovdrim_holiday",
             Call::Fits { .. } => "slovdrim_fits",
             Call::Fields { .. } | Call::HugeFields { .. } => "slovdrim_fields",
-            Call::Links { kind, .. } if *kind == PLAIN => "slovdrim_links",
-            Call::Links { .. } => "slovdrim_links_hinted",
+            Call::Check { kind, .. } if *kind == PLAIN => "slovdrim_check",
+            Call::Check { .. } => "slovdrim_check_hinted",
+            Call::Runs { .. } => "slovdrim_runs",
+            Call::TripStop { .. } => "slovdrim_trip_stop",
         }
     }
 
@@ -159,16 +176,24 @@ impl Call {
             Call::Date(n) | Call::Weekday(n) | Call::Week(n) => format!("{} {}", name, n),
             Call::Holiday { number, holidays } => format!("{} {} in {:?}", name, number, &holidays[..holidays.len().min(50)]),
             Call::Fits { sign, number, holidays } => format!("{} sign {:02x} day {} in {:?}", name, sign, number, &holidays[..holidays.len().min(50)]),
-            Call::Links { batch, huge, hint, kind, ways } => {
-                let mut s = format!("{}, made for {:?}, hint: {}, {} numbers {:?}", name, ways, kind, hint.len(), &hint[..hint.len().min(200)]);
-                for (file, bytes) in (1..).zip(batch.iter()) {
-                    match huge {
-                        Some((f, length)) if *f == file => write!(s, "\n  file {} {} zero bytes", file, length).unwrap(),
-                        _ => write!(s, "\n  file {} {}", file, hex(bytes)).unwrap(),
-                    }
-                }
-                s
+            Call::Check { batch, huge, hint, kind, ways } => {
+                let begin = format!("{}, made for {:?}, hint: {}, {} numbers {:?}", name, ways, kind, hint.len(), &hint[..hint.len().min(200)]);
+                begin + &told_files(batch, *huge)
             }
+            Call::Runs { batch, line, trip, day, holidays, .. } => {
+                let begin = format!("{} line {} trip {} day {} in {:?}", name, line, trip, day, &holidays[..holidays.len().min(50)]);
+                begin + &told_files(batch, None)
+            }
+            Call::TripStop { batch, line, trip, nth, .. } => format!("{} line {} trip {} stop {}", name, line, trip, nth) + &told_files(batch, None),
+        }
+    }
+
+    /// What is counted of a question on a batch; of a check, once for the plain call and all its hints.
+    fn ways(&self) -> &[String] {
+        match self {
+            Call::Check { kind: PLAIN, ways, .. } => ways,
+            Call::Runs { ways, .. } | Call::TripStop { ways, .. } => ways,
+            _ => &[],
         }
     }
 
@@ -177,7 +202,10 @@ impl Call {
         let yes = words[1] != 0;
         match (self, words[0]) {
             (Call::Fields { file, .. } | Call::HugeFields { file, .. }, _) if (1..=13).contains(file) => name_of(*file),
-            (Call::Links { kind, .. }, _) => kind,
+            (Call::Check { kind, .. }, _) => kind,
+            (Call::Runs { .. }, 0) => ["doesn't run", "runs"][(words[5] != 0) as usize],
+            (Call::TripStop { .. }, 0) if words[12] != 0 => "the last",
+            (Call::TripStop { .. }, 0) => "another",
             (Call::Records { .. }, 0) if words[5] == 0 => "no records",
             (Call::Records { .. }, 0) => "records",
             (Call::Stretch { .. }, 0) if words[6] == 0 => "an empty text",
@@ -262,11 +290,11 @@ impl Checker {
                     *self.report.aims.entry((*file, words[0], *aim)).or_insert(0) += 1;
                 }
             }
-            if let Call::Links { kind: PLAIN, ways, .. } = &a.call {
+            if let Call::Check { kind: PLAIN, .. } = &a.call {
                 *self.report.places.entry((words[0], words[1], words[3])).or_insert(0) += 1;
-                for way in ways.iter() {
-                    *self.report.ways.entry(way.clone()).or_insert(0) += 1;
-                }
+            }
+            for way in a.call.ways() {
+                *self.report.ways.entry(way.clone()).or_insert(0) += 1;
             }
         }
         Ok(())

@@ -1,10 +1,11 @@
-//! Document 01, "The batch": the keys and links of each file (refusals 7 and 8), the signs permitted by place (9), and the order in which the refusals 1 to 9
-//! of a batch are tried. Plain and slow: every key of every file stands in a map before the first record is judged.
+//! Document 01, "The batch": the keys and links of each file (refusals 7 and 8), the signs permitted by place (9), and the order in which the refusals 1 to 11
+//! of a batch are tried; `trips.rs` has 10 and 11. Plain and slow: every key of every file stands in a map before the first record is judged.
 
 use std::collections::HashMap;
 
 use crate::fields::{first_fault as fault_of_file, value};
 use crate::format::{Reader, FIELDS, LONGEST, TOO_LONG};
+use crate::trips;
 
 pub const WRONG_VERSION: u64 = 4;
 pub const KEY_USED: u64 = 7;
@@ -65,13 +66,13 @@ pub fn permitted(file: u64, sign: u8) -> bool {
     signs.contains(&sign)
 }
 
-type Texts<'a> = Vec<&'a [u8]>;
+pub type Texts<'a> = Vec<&'a [u8]>;
 
 fn numbers(record: &Texts, fields: &[usize]) -> Vec<u64> {
     fields.iter().map(|&f| value(record[f - 1])).collect()
 }
 
-fn records_of(file: u64, bytes: &[u8]) -> Vec<Texts<'_>> {
+pub fn records_of(file: u64, bytes: &[u8]) -> Vec<Texts<'_>> {
     let mut places = Vec::new();
     crate::format::judge_each(FIELDS[file as usize - 1], bytes, |start, length| places.push(&bytes[start..start + length]));
     places.chunks(FIELDS[file as usize - 1]).map(|c| c.to_vec()).collect()
@@ -171,9 +172,10 @@ impl<'a> Judge<'a> {
     }
 }
 
-/// The first of the refusals 1 to 9: number, file, record, field, offset.
+/// The first of the refusals 1 to 11: number, file, record, field, offset.
 pub fn first_fault(batch: &Bytes) -> [u64; 5] {
-    before_keys(batch).or_else(|| Judge::new(batch).first_fault()).unwrap_or([0; 5])
+    let of_trips = || trips::first_fault(&trips::trips(batch));
+    before_keys(batch).or_else(|| Judge::new(batch).first_fault()).or_else(of_trips).unwrap_or([0; 5])
 }
 
 /// For each of the files 2 to 10, record by record, the key and the offset at which the record begins. None for a batch with one of the refusals 1 to 6.

@@ -1,8 +1,8 @@
-//! An independent implementation of document 01, "The batch", "Bytes of a file", "Fields" and "Days", and its comparison with the library.
+//! An independent implementation of document 01, "The batch", "Bytes of a file", "Fields", "Days" and "A trip's stops", and its comparison with the library.
 //!
-//!     model compare files|days|fields|links DRIVER ARGUMENTS..   ask the driver everything and compare
-//!     model almanac                                              every day of the model's own calendar, a line each
-//!     model samples FOLDER                                       whether the model accepts each file of a batch, read by itself
+//!     model compare files|days|fields|links|trips DRIVER ARGUMENTS..   ask the driver everything and compare
+//!     model almanac                                                    every day of the model's own calendar, a line each
+//!     model samples FOLDER                                             whether the model accepts each file of a batch, read by itself
 //!
 //! It was written from document 01 and the tables of document 000 alone. It needs nothing but Rust's standard library.
 
@@ -25,8 +25,13 @@ mod hints;
 mod link;
 mod links;
 mod maker;
+mod plans;
 mod rules;
 mod sweep;
+mod trip_faults;
+mod trip_met;
+mod trip_questions;
+mod trips;
 
 use std::time::Instant;
 
@@ -160,6 +165,23 @@ fn compare_fields(command: &[String]) -> Report {
     report
 }
 
+fn compare_trips(command: &[String]) -> Report {
+    let mut report = Report::default();
+    step(&mut report, command, "small facts", trip_questions::small_facts);
+    step(&mut report, command, "samples", trip_questions::samples);
+    step(&mut report, command, "days that go together", trip_questions::permitted_days);
+    step(&mut report, command, "every day rule", trip_questions::day_rules);
+    step(&mut report, command, "every stop rule", trip_questions::stop_rules);
+    step(&mut report, command, "several trips broken", trip_questions::several_broken);
+    step(&mut report, command, "nearly broken", trip_questions::near_misses);
+    step(&mut report, command, "stops", trip_questions::stops);
+    step(&mut report, command, "no such trip, day or stop", trip_questions::no_such);
+    step(&mut report, command, "refused batches", trip_questions::refused);
+    step(&mut report, command, "days and times as they fall", trip_questions::as_they_fall);
+    step(&mut report, command, "large trips", trip_questions::large_trips);
+    report
+}
+
 fn compare_links(command: &[String]) -> Report {
     let mut report = Report::default();
     step(&mut report, command, "samples", batch_questions::samples);
@@ -234,6 +256,11 @@ fn main() {
             batch_met::told(&mut report);
             report
         }
+        ["compare", "trips", _, ..] => {
+            let mut report = compare_trips(&arguments[2..]);
+            trip_met::told(&mut report);
+            report
+        }
         ["samples", folder] => {
             if !faults::samples_stand(folder) {
                 std::process::exit(1);
@@ -242,7 +269,7 @@ fn main() {
             return;
         }
         _ => {
-            eprintln!("model compare files|days|fields|links DRIVER ARGUMENTS.. | model almanac | model samples FOLDER");
+            eprintln!("model compare files|days|fields|links|trips DRIVER ARGUMENTS.. | model almanac | model samples FOLDER");
             std::process::exit(2);
         }
     };

@@ -48,14 +48,20 @@ impl Maker {
         format!("{:02}{:02}{}", d.day, d.month, d.year).into_bytes()
     }
 
-    /// Two dates, the first not after the second.
-    pub fn period(&mut self) -> (Vec<u8>, Vec<u8>) {
+    /// Two days, the first not after the second.
+    pub fn span(&mut self) -> (usize, usize) {
         let from = self.r.below(self.days.len());
         let to = match self.r.below(4) {
             0 => from,
             1 => self.days.len() - 1,
             _ => (from + self.r.below(500)).min(self.days.len() - 1),
         };
+        (from, to)
+    }
+
+    /// Two dates, the first not after the second.
+    pub fn period(&mut self) -> (Vec<u8>, Vec<u8>) {
+        let (from, to) = self.span();
         (self.written(from), self.written(to))
     }
 

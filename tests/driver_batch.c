@@ -1,4 +1,4 @@
-/* The requests on the keys, links and signs of a batch. A file of its own, so that the driver can be built before the archive has these calls. */
+/* The requests on a batch as a whole. A file of its own, so that the driver can be built before the archive has these calls. */
 #define _GNU_SOURCE
 #include "driver.h"
 
@@ -9,24 +9,17 @@
 
 #include "../host/slovdrim.h"
 
-enum { FILES = 13 };
-
 /* The thirteen files that request B brought last, and the list of request O. */
 static struct lent files[FILES], order;
 
-/* The bytes of the call under way. */
-static struct {
-    const uint8_t *bytes[FILES];
-    size_t length[FILES];
-} batch;
+struct batch batch;
 
-/* Every file at its end, every file at its start, and NULL for each that is empty while the others stand at their ends. */
-static const uint8_t *placed_at(const struct lent *l, enum placing where)
+const uint8_t *placed_at(const struct lent *l, enum placing where)
 {
     return lent_at(l, where != NOWHERE ? where : l->length == 0 ? NOWHERE : AT_END);
 }
 
-static int place_batch(enum placing where)
+int place_batch(enum placing where)
 {
     int i, empty = 0;
     for (i = 0; i < FILES; i++) {
@@ -37,32 +30,26 @@ static int place_batch(enum placing where)
     return empty;
 }
 
-#define EACH_FILE                                                                                                                                    \
-    batch.bytes[0], batch.length[0], batch.bytes[1], batch.length[1], batch.bytes[2], batch.length[2], batch.bytes[3], batch.length[3],             \
-        batch.bytes[4], batch.length[4], batch.bytes[5], batch.length[5], batch.bytes[6], batch.length[6], batch.bytes[7], batch.length[7],         \
-        batch.bytes[8], batch.length[8], batch.bytes[9], batch.length[9], batch.bytes[10], batch.length[10], batch.bytes[11], batch.length[11],     \
-        batch.bytes[12], batch.length[12]
-
-static void call_plain(uint64_t answer[8], enum placing where)
+static void call_plain(uint64_t answer[WORDS], enum placing where)
 {
-    slovdrim_links_answer a;
-    about_to("slovdrim_links", 0, 0, 0, where, NULL, 0);
-    a = slovdrim_links(EACH_FILE);
+    slovdrim_check_answer a;
+    about_to("slovdrim_check", 0, 0, 0, where, NULL, 0);
+    a = slovdrim_check(EACH_FILE);
     memcpy(answer, &a, sizeof a);
 }
 
-static void call_hinted(uint64_t answer[8], enum placing where)
+static void call_hinted(uint64_t answer[WORDS], enum placing where)
 {
     const uint8_t *list = placed_at(&order, where);
-    slovdrim_links_answer a;
-    about_to("slovdrim_links_hinted", order.length / 4, 0, 0, where, list, order.length);
-    a = slovdrim_links_hinted(EACH_FILE, (const uint32_t *)(const void *)list, order.length / 4);
+    slovdrim_check_answer a;
+    about_to("slovdrim_check_hinted", order.length / 4, 0, 0, where, list, order.length);
+    a = slovdrim_check_hinted(EACH_FILE, (const uint32_t *)(const void *)list, order.length / 4);
     memcpy(answer, &a, sizeof a);
 }
 
-static void links(int hinted)
+static void check(int hinted)
 {
-    uint64_t answers[PLACINGS][8];
+    uint64_t answers[PLACINGS][WORDS];
     int i, n = place_batch(AT_END) || (hinted && order.length == 0) ? PLACINGS : PLACINGS - 1;
     for (i = 0; i < n; i++) {
         place_batch(i);
@@ -71,13 +58,13 @@ static void links(int hinted)
         else
             call_plain(answers[i], i);
     }
-    give_answers(answers, n, sizeof(slovdrim_links_answer) / 8);
+    give_answers(answers, n, sizeof(slovdrim_check_answer) / 8);
 }
 
 /* One file of a length that no room holds: the bytes are there, all zero, and nothing has to be read to refuse them. */
-static void links_of_huge(void)
+static void check_of_huge(void)
 {
-    uint64_t file = take_word(), length = take_word(), answers[PLACINGS][8];
+    uint64_t file = take_word(), length = take_word(), answers[PLACINGS][WORDS];
     uint8_t *bytes = mmap(NULL, length, PROT_READ, MAP_PRIVATE | MAP_ANONYMOUS | MAP_NORESERVE, -1, 0);
     if (file < 1 || file > FILES || bytes == MAP_FAILED) {
         fprintf(stderr, "driver: no addresses for a huge file\n");
@@ -87,9 +74,9 @@ static void links_of_huge(void)
     batch.bytes[file - 1] = bytes;
     batch.length[file - 1] = length;
     call_plain(answers[0], AT_END);
-    give_answers(answers, 1, sizeof(slovdrim_links_answer) / 8);
+    give_answers(answers, 1, sizeof(slovdrim_check_answer) / 8);
     call_hinted(answers[0], AT_END);
-    give_answers(answers, 1, sizeof(slovdrim_links_answer) / 8);
+    give_answers(answers, 1, sizeof(slovdrim_check_answer) / 8);
     munmap(bytes, length);
 }
 
@@ -103,7 +90,7 @@ static void lend_file(void)
     lend(&files[file - 1], take_word());
 }
 
-void links_under_way(void)
+void batch_under_way(void)
 {
     size_t i, j;
     for (i = 0; i < FILES; i++) {
@@ -114,7 +101,7 @@ void links_under_way(void)
     }
 }
 
-int links_request(uint8_t letter)
+int batch_request(uint8_t letter)
 {
     int i;
     if (order.rooms[0].own == NULL)
@@ -132,13 +119,13 @@ int links_request(uint8_t letter)
         lend(&order, 4 * take_word());
         return 1;
     case 'K':
-        links(0);
+        check(0);
         return 1;
     case 'k':
-        links(1);
+        check(1);
         return 1;
     case 'M':
-        links_of_huge();
+        check_of_huge();
         return 1;
     }
     return 0;

@@ -11,7 +11,7 @@ module _ {A : Type 0} where
   select test [] = []
   select test (a ∷ rest) = pick (test a) (a ∷ select test rest) (select test rest)
 
-  -- the first of them, or else `other`
+  -- the first for which it holds, or else `other`
   unfoldable pub firstOr : A → (A → Bool) → List A → A
   firstOr other test [] = other
   firstOr other test (a ∷ rest) = pick (test a) a (firstOr other test rest)
@@ -32,13 +32,13 @@ module _ {A : Type 0} where
   backward (a ∷ rest) = backward rest ++ (a ∷ [])
 
 module _ {A B : Type 0} where
-  -- each of them as f has it
+  -- what f makes of each
   unfoldable pub each : (A → B) → List A → List B
   each f [] = []
   each f (a ∷ rest) = f a ∷ each f rest
 
 module _ {A : Type 0} (number : A → ℕ) where
-  -- a among those that rise by their numbers
+  -- a put in its place into a list that rises by number, before its equals
   unfoldable pub insert : A → List A → List A
   insert a [] = a ∷ []
   insert a (b ∷ bs) = pick (leb (number a) (number b)) (a ∷ b ∷ bs) (b ∷ insert a bs)
@@ -50,4 +50,4 @@ module _ {A : Type 0} (number : A → ℕ) where
 
   -- document 01, "A trip's stops": travel order is rising tariff number for an odd trip number, falling for an even one
   unfoldable pub travel : ℕ → List A → List A
-  travel trip rest = pick (eqb (trip % 2) 1) (rising rest) (backward (rising rest))
+  travel trip all = pick (eqb (trip % 2) 1) (rising all) (backward (rising all))

@@ -30,7 +30,7 @@ pub departure-own : (last : ℕ) (r : Fields) → isTime (departure r) ≡ true 
 unfolding departureMinute
 departure-own last r e = minute-own (arrivalMinute last r) (departure r) e
 
--- a stop with no departure leaves at its arrival, and one with neither time leaves the walk where it was
+-- where a stop has no departure, the walk stands behind it at its arrival, and one with neither time leaves the walk where it was
 pub departure-none : (last : ℕ) (r : Fields) → isTime (departure r) ≡ false → departureMinute last r ≡ arrivalMinute last r
 unfolding departureMinute
 departure-none last r e = minute-stays (arrivalMinute last r) (departure r) e

@@ -12,7 +12,6 @@ use Rattle.laws.specs.Tests.{pick, both, oneOf, either, clash}
 use Rattle.file.specs.Format.{Text, Fields}
 use Rattle.field.specs.Values.{isEmpty, given, valueFrom, value, isTime, minuteOf}
 use Rattle.field.specs.Names.{kilometres, arrival, departure, tripStopsFile}
-use Rattle.field.specs.Rules.{asks}
 use Rattle.field.specs.Kinds.{kinds, zasspoje, kindOf, admits}
 use Rattle.field.specs.Stage.{firstUnkind}
 use Rattle.field.proofs.ValueLaws.{minute-bound, digits-bound}
@@ -67,18 +66,18 @@ module _ (t : Text) where
   unfolding neverFalls minuteAt minuteOn minuteOr
   step-goes last e = go (isTime t) e
     where
-      go : (b : Bool) → asks b (leb last (minuteOf t)) ≡ true
+      go : (b : Bool) → leb last (pick b (minuteOf t) last) ≡ true
           → pick b (pick (leb last (pick b (minuteOf t) 0)) (pick b (minuteOf t) 0) fallen) last ≡ pick b (minuteOf t) last
       go true f = rw f
       go false f = refl
 
   step-falls : (last : ℕ) → neverFalls last t ≡ false → stepped last ≡ fallen
-  unfolding neverFalls minuteOn minuteOr
+  unfolding neverFalls minuteAt minuteOn minuteOr
   step-falls last e = go (isTime t) e
     where
-      go : (b : Bool) → asks b (leb last (minuteOf t)) ≡ false → pick b (pick (leb last (pick b (minuteOf t) 0)) (pick b (minuteOf t) 0) fallen) last ≡ fallen
+      go : (b : Bool) → leb last (pick b (minuteOf t) last) ≡ false → pick b (pick (leb last (pick b (minuteOf t) 0)) (pick b (minuteOf t) 0) fallen) last ≡ fallen
       go true f = rw f
-      go false f = clash refl f
+      go false f = absurd (omega (arith, leb-false last last f))
 
   step-stays : stepped fallen ≡ fallen
   unfolding minuteOn minuteOr

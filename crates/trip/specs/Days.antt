@@ -22,7 +22,8 @@ typeOf r = firstByte (codeType r) - 48
 unfoldable pub hasType : ℕ → List Fields → Bool
 hasType t codes = some (λ r. eqb (typeOf r) t) codes
 
--- the period of a time code holds day d; a period with no to-date is one day, and so a type 2 or type 3 record's is its date
+-- the period of a time code holds day d; a period with no to-date is one day, and so a type 2 or type 3 record's is its date. One without a
+-- from-date holds no day
 unfoldable pub holdsDay : ℕ → Fields → Bool
 holdsDay d r = both (given (codeFrom r)) (periodHolds (dayOfText (codeFrom r)) (given (codeTo r)) (dayOfText (codeTo r)) d)
 
@@ -79,11 +80,11 @@ daysFit signs codes =
 unfoldable pub signsAllow : List ℕ → ℕ → List ℕ → Bool
 signsAllow signs d holidays = oneOf (not (hasDaySign signs)) (some (λ x. signFits x d holidays) signs)
 
--- it has no record of type t, 5 or 6, or the week of d is as that type asks
+-- for t 5 or 6: it has no record of type t, or the week of d is as type t asks
 unfoldable pub weekAllows : ℕ → ℕ → List Fields → Bool
 weekAllows t d codes = asks (hasType t codes) (parityFits t d)
 
--- the same for 7 or 8, where one such period holds d besides
+-- for t 7 or 8: the same, and one such period holds d besides
 unfoldable pub weekAllowsIn : ℕ → ℕ → List Fields → Bool
 weekAllowsIn t d codes = asks (hasType t codes) (both (parityFits t d) (holds t d codes))
 
@@ -103,6 +104,6 @@ codesAllow signs codes d holidays =
     (holds 3 d codes)
     (both (not (holds 4 d codes)) (oneOf (holds 2 d codes) (allAllow signs codes d holidays)))
 
--- d is within a line's validity, both ends counted
+-- d is within a line's validity, both ends counted; of an accepted batch every trip's line has a record, and its two dates are dates
 unfoldable pub isValid : Fields → ℕ → Bool
 isValid line d = within (dayOfText (validFrom line)) d (dayOfText (validTo line))

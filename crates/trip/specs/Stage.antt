@@ -13,7 +13,7 @@ use Rattle.trip.specs.View.{viewOf, tripFault}
 abbrev pub tripsFile : ℕ
 tripsFile = 6
 
--- what is wrong with the trip of this record: it is its line's trip of its number
+-- what is wrong with the trip of this record; the trip is looked up in its line's view by its number
 unfoldable pub faultOfTrip : Batch → Fields → ℕ
 faultOfTrip b r = tripFault (viewOf b (number 1 r)) (number 2 r)
 

@@ -7,7 +7,6 @@ use Rattle.laws.specs.Tests.{pick, both, oneOf}
 use Rattle.file.specs.Format.{Text, Fields}
 use Rattle.field.specs.Values.{isEmpty, given, among, value, isTime, minuteOf}
 use Rattle.field.specs.Names.{kilometres, arrival, departure}
-use Rattle.field.specs.Rules.{asks}
 use Rattle.trail.specs.Lists.{some, tally}
 
 -- a record has an arrival, a departure: "a time" is always HHMM
@@ -21,7 +20,7 @@ departs r = isTime (departure r)
 unfoldable pub timed : Fields → Bool
 timed r = oneOf (arrives r) (departs r)
 
--- `|` or `<` stands in it
+-- `|` or `<` stands in one of a record's two time fields
 unfoldable pub passesIn : Text → Text → Bool
 passesIn a d = oneOf (among (124 ∷ 60 ∷ []) a) (among (124 ∷ 60 ∷ []) d)
 
@@ -32,13 +31,13 @@ passes r = passesIn (arrival r) (departure r)
 unfoldable pub blank : Fields → Bool
 blank r = both (isEmpty (arrival r)) (isEmpty (departure r))
 
--- the first with a time has a departure, no arrival, kilometre 0
+-- the first with a time has a departure, no arrival, kilometre 0; by its own rule (6) a record with a time has its kilometres given
 unfoldable pub firstFits : Fields → Bool
 firstFits r = both (departs r) (both (not (arrives r)) (eqb (value (kilometres r)) 0))
 
 -- A record in its place: `begun` says whether one with a time stands before it, and `goesOn` whether one stands behind it. It is the first with a
 -- time, or the last, or stands between them, or outside; between them no record has both time fields empty, one with a time has a departure, and
--- only there may `|` and `<` stand.
+-- only there may `|` and `<` stand. (A record that alone has a time is tried as the first; that there are two is asked apart.)
 unfoldable pub placeFits : Bool → Bool → Fields → Bool
 placeFits begun goesOn r =
     pick (timed r)
@@ -50,16 +49,17 @@ unfoldable pub placesFit : Bool → List Fields → Bool
 placesFit begun [] = true
 placesFit begun (r ∷ rs) = both (placeFits begun (some timed rs) r) (placesFit (oneOf begun (timed r)) rs)
 
--- THE WALK OVER TIMES. It carries the last time, as a minute of the day, and goes from time field to time field, arrival before departure.
+-- THE WALK OVER TIMES. It carries the last time, as a minute of the day, and goes from time field to time field, arrival before departure. It sets
+-- out from 0, below no time.
 -- the minute that a time field brings the walk to: a field that is no time leaves it where it was
 unfoldable pub minuteAt : ℕ → Text → ℕ
 minuteAt last t = pick (isTime t) (minuteOf t) last
 
--- it doesn't fall there
+-- the walk doesn't fall there
 unfoldable pub neverFalls : ℕ → Text → Bool
-neverFalls last t = asks (isTime t) (leb last (minuteOf t))
+neverFalls last t = leb last (minuteAt last t)
 
--- the minutes that a record's arrival and departure bring it to
+-- the minutes that a record's arrival, and then its departure, bring the walk to; where there is no such time it stays
 unfoldable pub arrivalMinute : ℕ → Fields → ℕ
 arrivalMinute last r = minuteAt last (arrival r)
 

@@ -11,7 +11,7 @@ use Rattle.field.specs.Values.{isEmpty, value}
 use Rattle.field.specs.Names.{field}
 use Rattle.keys.specs.Keys.{third}
 use Rattle.link.specs.Met.{number}
-use Rattle.link.specs.Signs.{signOf, isIn}
+use Rattle.link.specs.Signs.{signOf}
 use Rattle.thirteen.specs.Batch.{Batch, recordsOf}
 use Rattle.trail.specs.Lists.{select, firstOr, each, rising, travel}
 use Rattle.trip.specs.Days.{daysFit, codesAllow, isValid}
@@ -53,7 +53,7 @@ pub record View : Type 0 where
 abbrev pub ofLine : ℕ → Fields → Bool
 ofLine line r = eqb (number 1 r) line
 
--- the line's own records of a file
+-- the line's own records of a file, by the file's number
 abbrev pub ownRecords : Batch → ℕ → ℕ → List Fields
 ownRecords b line file = select (ofLine line) (recordsOf b file)
 
@@ -63,23 +63,26 @@ withSigns signs rs = each (λ r. record { texts = r; signs = signs r }) rs
 
 unfoldable pub viewOf : Batch → ℕ → View
 viewOf b line = record {
-  line = firstOr [] (ofLine line) (recordsOf b 5);
-  trips = withSigns (tripSigns b) (ownRecords b line 6);
-  lineStops = withSigns (lineStopSigns b) (ownRecords b line 7);
-  tripStops = withSigns (tripStopSigns b) (ownRecords b line 8);
-  timeCodes = ownRecords b line 10;
+  line = firstOr [] (ofLine line) (recordsOf b 5);  -- Linky
+  trips = withSigns (tripSigns b) (ownRecords b line 6);  -- Spoje
+  lineStops = withSigns (lineStopSigns b) (ownRecords b line 7);  -- Zaslinky
+  tripStops = withSigns (tripStopSigns b) (ownRecords b line 8);  -- Zasspoje
+  timeCodes = ownRecords b line 10;  -- Caskody
 }
 
--- The trip of this number: its record, its time codes by their numbers, its stops in travel order.
+-- A record has this trip number, in its field 2.
 abbrev pub numbered : ℕ → Signed → Bool
 numbered trip p = eqb (number 2 (p .texts)) trip
 
+-- the trip of this number: its record in Spoje
 unfoldable pub tripOf : View → ℕ → Signed
 tripOf v trip = firstOr nobody (numbered trip) (v .trips)
 
+-- its time codes, by their numbers (the third of the key in file 10)
 unfoldable pub codesOf : View → ℕ → List Fields
 codesOf v trip = rising (third 10) (select (λ r. eqb (number 2 r) trip) (v .timeCodes))
 
+-- its stops in travel order, by their tariff numbers (the third of the key in file 8)
 unfoldable pub stopsOf : View → ℕ → List Signed
 stopsOf v trip = travel (λ p. third 8 (p .texts)) trip (select (numbered trip) (v .tripStops))
 
@@ -91,7 +94,7 @@ stopTexts v trip = each (λ p. p .texts) (stopsOf v trip)
 unfoldable pub tripFault : View → ℕ → ℕ
 tripFault v trip = pick (daysFit (tripOf v trip .signs) (codesOf v trip)) (pick (stopsFit (stopTexts v trip)) 0 11) 10
 
--- the trip runs on day d: d is within its line's validity, and its signs and time codes allow it
+-- the trip runs on day d: d is within its line's validity, and its signs and time codes allow it. It is asked of trips that there are
 unfoldable pub runsOn : View → ℕ → List ℕ → ℕ → Bool
 runsOn v trip holidays d = both (isValid (v .line) d) (codesAllow (tripOf v trip .signs) (codesOf v trip) d holidays)
 

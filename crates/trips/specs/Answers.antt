@@ -1,4 +1,4 @@
--- Document 01's number and place for each case of what the stage finds.
+-- Document 01's number and place for each case of what the stage of 10 and 11 finds.
 use mathlib.Core.List.{[]}
 use Rattle.laws.specs.Numbered.{Numbered, answered, refusedIn}
 use Rattle.trip.specs.Stage.{tripsFile}

@@ -1,4 +1,4 @@
--- What a batch that stands keeps, as far as questions about its trips need it; the whole check gives it.
+-- What an accepted batch keeps, as far as questions about its trips need it; the whole check gives it (`standing` in crates/batch/proofs/).
 use mathlib.Core.Path.{_≡_}
 use mathlib.Core.List.{[]}
 use Rattle.laws.specs.Numbered.{answered}

@@ -1,3 +1,4 @@
 pub mod OrderLaws
 pub mod FileLaws
 pub mod AcceptedLaws
+pub mod RecordsLaws

@@ -1,0 +1,2 @@
+pub mod HaltLaws
+pub mod ViewOfHalts

@@ -14,9 +14,9 @@ use Rattle.batch.proofs.is_none.Statement.{statement}
 use Rattle.batch.proofs.is_none.Tie as tie
 
 -- a fault of any other case has another number
-some : (f : Fault) → OneOf (1 ∷ 2 ∷ 3 ∷ 4 ∷ 5 ∷ 6 ∷ 7 ∷ []) (tagOf the-type f) → false ≡ eqb (numberedFault f .number) 0
+some : (f : Fault) → OneOf (1 ∷ 2 ∷ 3 ∷ 4 ∷ 5 ∷ 6 ∷ 7 ∷ 8 ∷ 9 ∷ []) (tagOf the-type f) → false ≡ eqb (numberedFault f .number) 0
 unfolding numberedFault
-some Fault.None k = absurd (miss (1 ∷ 2 ∷ 3 ∷ 4 ∷ 5 ∷ 6 ∷ 7 ∷ []) 0 tt k)
+some Fault.None k = absurd (miss (1 ∷ 2 ∷ 3 ∷ 4 ∷ 5 ∷ 6 ∷ 7 ∷ 8 ∷ 9 ∷ []) 0 tt k)
 some (Fault.File why) k = sym (no-answer why)
 some (Fault.Version k f) _ = refl
 some (Fault.Unkind file k f) _ = refl
@@ -24,6 +24,8 @@ some (Fault.Broken file k) _ = refl
 some (Fault.Used file k) _ = refl
 some (Fault.Dangling file k f) _ = refl
 some (Fault.Misplaced file k f) _ = refl
+some (Fault.Days k) _ = refl
+some (Fault.Stops k) _ = refl
 
 returns : tie.Need-returns
 unfolding numberedFault

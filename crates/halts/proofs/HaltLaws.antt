@@ -1,0 +1,393 @@
+-- Laws of a trip's stops one by one: the walk through them, the signs of the codes of a record, and the line's stop of a trip's stop.
+use mathlib.Core.Path.{_≡_, refl, sym, ap, _∙_}
+use mathlib.Core.Bool.{Bool, true, false}
+use mathlib.Core.List.{List, [], _∷_, _++_}
+use Prim.Native.Nat.{ℕ, suc, _+_, _-_, _≤_, _<_}
+use native.Mathlib.Omega.{arith}
+use lib.Dec.{eqb}
+use lib.ListN.{length, drop, drop-of-length-le}
+use lib.Seq.{drop-drop}
+use borrow.Author.Tests.{eq-eqb, ne-eqb, eqb-true, eqb-false}
+use Rattle.laws.specs.Tests.{pick, both, oneOf, either}
+use Rattle.file.specs.Files.{fieldsOf, fieldCounts}
+use Rattle.file.specs.Format.{Fields, writtenRecord}
+use Rattle.file.specs.Records.{recordsIn}
+use Rattle.field.specs.Kinds as kind
+use Rattle.field.specs.Kinds.{kinds, kindOf}
+use Rattle.field.specs.Names.{field}
+use Rattle.field.specs.Values.{isEmpty, value}
+use Rattle.walk.specs.Walk.{Cuts, LegalFrom}
+use Rattle.walk.specs.declared.Found.{Found}
+use Rattle.walk.specs.declared.Found.the-variants.{At, Nothing}
+use Rattle.walk.proofs.WalkLaws.{cut-first, count-left, left-most}
+use Rattle.lines.proofs.OrderLaws.{found-place}
+use Rattle.keys.specs.Keys.{keyTable, keyFields, numbers, keyOf, same, firstWith, ofTrip, third, none}
+use Rattle.keys.specs.KeyFiles.{KeyFile, PlaceIn}
+use Rattle.keys.specs.Ranks.{Small, rank, rankOf, recordAt}
+use Rattle.keys.proofs.KeyFileLaws.{first-with}
+use Rattle.rules.specs.Texts.{texts}
+use Rattle.link.specs.Links as link
+use Rattle.link.specs.Links.{links, linkOf}
+use Rattle.link.specs.Met.{number}
+use Rattle.link.specs.Numeric.{numeric, NumberAt, CodeAt}
+use Rattle.link.specs.Signs.{signIn, isIn}
+use Rattle.link.proofs.KindOfLinks.{code-kind}
+use Rattle.trail.specs.Lists.{select, firstOr, some, travel, backward}
+use Rattle.trail.specs.Trail.{upward, after, stepOf, placeOf}
+use Rattle.trail.proofs.ListLaws.{length-travel}
+use Rattle.trip.specs.Stops.{arrives, departs, timed}
+use Rattle.trip.specs.Track.{visitOf}
+use Rattle.trip.specs.View.{signsFrom}
+use Rattle.trip.specs.declared.course.Visit.{Visit}
+use Rattle.trip.proofs.ViewLaws.{first-found, first-same, of-trip-fields}
+use Rattle.coded.specs.Left.{leftAt}
+use Rattle.coded.specs.Ready.{Ready}
+use Rattle.coded.proofs.LeftLaws.{left-start, left-done, left-next}
+use Rattle.calling.specs.Calling.{travelled, goesUp, firstPlace}
+use Rattle.calling.proofs.CallingLaws.{three-numbers}
+use Rattle.halts.specs.Halts.{lineStopAt, plainSigns}
+
+-- THE WALK. Those that pass a test are no more than all.
+select-few : {A : Type 0} (test : A → Bool) (l : List A) → length (select test l) ≤ length l
+unfolding select
+select-few test [] = omega arith
+select-few test (a ∷ rest) =
+    either (test a)
+    (λ t. rw t (omega (arith, select-few test rest)))
+    (λ t. rw t (omega (arith, select-few test rest)))
+
+-- a trip's records in travel order are no more than the file's
+travelled-few : (line trip : ℕ) (rs : List Fields) → length (travelled line trip rs) ≤ length rs
+unfolding travelled
+travelled-few line trip rs =
+    omega (arith, length-travel (third 8) trip (select (ofTrip 8 line trip) rs), select-few (ofTrip 8 line trip) rs)
+
+-- and these no more than its bytes
+pub few-stops : (s : List ℕ) (line trip : ℕ) → LegalFrom (fieldsOf 8) s 0 → length (travelled line trip (recordsIn (fieldsOf 8) s)) ≤ length s
+few-stops s line trip h =
+    let n = fieldsOf 8 in
+    let c : length (recordsIn n s) ≡ h .count = count-left n s 0 h in
+    omega (arith, travelled-few line trip (recordsIn n s), c, left-most n s 0 h)
+
+-- the trip's records upward, or backward
+travel-order : (line trip : ℕ) (rs : List Fields)
+    → travelled line trip rs ≡ pick (goesUp trip) (upward 8 line trip rs) (backward (upward 8 line trip rs))
+unfolding travelled travel upward
+travel-order line trip rs = refl
+
+-- behind the first of what is left come the others; of none, none are left
+drop-next : {A : Type 0} (a : A) (left rest all : List A) (i : ℕ) → left ≡ a ∷ rest → left ≡ drop i all → rest ≡ drop (i + 1) all
+drop-next a left rest all i e d =
+    let z : a ∷ rest ≡ drop i all = sym e ∙ d in
+    ap (drop 1) z ∙ drop-drop 1 i all
+
+drop-none : {A : Type 0} (all : List A) (i n : ℕ) → drop i all ≡ [] → i ≤ n → drop n all ≡ []
+drop-none all i n e h =
+    let z : i + (n - i) ≡ n = omega arith in
+    rw z at (sym (drop-drop (n - i) i all)) ∙ ap (drop (n - i)) e ∙ drop-of-length-le [] {i = n - i} (omega arith)
+
+module _ (s order ways : List ℕ) (ready : Ready 8 s order ways) (line trip : ℕ) (l : line < none) (t : trip < none) where
+  abbrev left : ℕ → List Fields
+  left at = leftAt 8 s (goesUp trip) line trip at
+
+  abbrev mine : List Fields
+  mine = travelled line trip (recordsIn (fieldsOf 8) s)
+
+  -- where the walk begins, all are left
+  pub walk-start : (at : ℕ) → at ≡ firstPlace s line trip → PlaceIn 8 s at × (left at ≡ mine)
+  unfolding firstPlace
+  walk-start at e =
+      let w = left-start 8 s order ways ready three-numbers line trip l t (goesUp trip) at e in
+      (w .0, w .1 ∙ sym (travel-order line trip (recordsIn (fieldsOf 8) s)))
+
+  -- at the end none is
+  pub walk-done : (at : ℕ) → length s ≤ at → left at ≡ []
+  walk-done at h = left-done 8 s order ways ready three-numbers line trip l t (goesUp trip) at h
+
+  -- so what was counted is all
+  pub count-end : (n at : ℕ) → n + length (left at) ≡ length mine → length s ≤ at → n ≡ length mine
+  count-end n at e h = omega (arith, e, ap length (walk-done at h))
+
+  -- and there is no nth
+  pub nth-end : (i n at : ℕ) → left at ≡ drop i mine → i ≤ n → length s ≤ at → left at ≡ drop n mine
+  nth-end i n at e k h = walk-done at h ∙ sym (drop-none mine i n (sym e ∙ walk-done at h) k)
+
+  -- and none of them has a time
+  pub timed-end : (at : ℕ) → length s ≤ at → some timed (left at) ≡ false
+  unfolding some
+  timed-end at h = rw (walk-done at h)
+
+  -- a record comes
+  module _ (at : ℕ) (h : at < length s) {old places : List ℕ} {end : ℕ} (cut : Cuts (fieldsOf 8) s at old places end) where
+    module _ (next : ℕ) (e : next ≡ placeOf s (stepOf 8 (goesUp trip) line trip (after (goesUp trip) (third 8 (texts 8 s places))) (recordsIn (fieldsOf 8) s))) where
+      pub walk-next : PlaceIn 8 s next × (left at ≡ texts 8 s places ∷ left next)
+      walk-next = left-next 8 s order ways ready three-numbers line trip l t (goesUp trip) at h cut next e
+
+      -- fewer are left
+      pub walk-less : length (left next) < length (left at)
+      walk-less = omega (arith, ap length (walk-next .1))
+
+      -- it was counted
+      pub count-next : (n : ℕ) → n + length (left at) ≡ length mine → n + 1 + length (left next) ≡ length mine
+      count-next n d = omega (arith, d, ap length (walk-next .1))
+
+      pub nth-next : (i : ℕ) → left at ≡ drop i mine → left next ≡ drop (i + 1) mine
+      nth-next i d = drop-next (texts 8 s places) (left at) (left next) mine i (walk-next .1) d
+
+      -- those behind it
+      pub behind-next : drop 1 (left at) ≡ left next
+      behind-next = ap (drop 1) (walk-next .1)
+
+      -- it has no time
+      pub timed-next : timed (texts 8 s places) ≡ false → some timed (left at) ≡ some timed (left next)
+      unfolding some
+      timed-next d = rw (walk-next .1, d)
+
+    -- it has a time
+    pub timed-here : timed (texts 8 s places) ≡ true → some timed (left at) ≡ true
+    unfolding some
+    timed-here d =
+        let w = walk-next (placeOf s (stepOf 8 (goesUp trip) line trip (after (goesUp trip) (third 8 (texts 8 s places))) (recordsIn (fieldsOf 8) s))) refl in
+        rw (w .1, d)
+
+-- what a record says of its times
+module _ (r : Fields) (v : Visit) (e : v ≡ visitOf r) where
+  pub visit-arrives : v .arrives ≡ true → timed r ≡ true
+  unfolding timed visitOf
+  visit-arrives a =
+      let z : arrives r ≡ true = ap (λ (w : Visit). w .arrives) (sym e) ∙ a in
+      rw z
+
+  pub visit-departs : v .departs ≡ true → timed r ≡ true
+  unfolding timed visitOf
+  visit-departs d =
+      let z : departs r ≡ true = ap (λ (w : Visit). w .departs) (sym e) ∙ d in
+      either (arrives r) (λ a. rw a) (λ a. rw (a, z))
+
+  pub visit-none : v .arrives ≡ false → v .departs ≡ false → timed r ≡ false
+  unfolding timed visitOf
+  visit-none a d =
+      let y : arrives r ≡ false = ap (λ (w : Visit). w .arrives) (sym e) ∙ a in
+      let z : departs r ≡ false = ap (λ (w : Visit). w .departs) (sym e) ∙ d in
+      rw (y, z)
+
+-- THE SIGNS OF CODES. One more code: the sign of an empty one, 0, is none that is looked for.
+sign-first : (sign : ℕ → ℕ) (x f n : ℕ) (r : Fields) → (x ≡ 0 → ⊥)
+    → isIn x (signsFrom sign f (suc n) r) ≡ oneOf (eqb x (pick (isEmpty (field f r)) 0 (sign (value (field f r))))) (isIn x (signsFrom sign (f + 1) n r))
+unfolding isIn signsFrom
+sign-first sign x f n r h =
+    either (isEmpty (field f r))
+    (λ t. rw (t, ne-eqb x 0 h))
+    (λ t. rw t)
+
+-- texts i to `to` - 1 are looked through
+module _ (sign : ℕ → ℕ) (x i to : ℕ) (r : Fields) (h : x ≡ 0 → ⊥) where
+  abbrev here : ℕ
+  here = pick (isEmpty (field (i + 1) r)) 0 (sign (value (field (i + 1) r)))
+
+  codes-first : i < to → isIn x (signsFrom sign (i + 1) (to - i) r) ≡ oneOf (eqb x here) (isIn x (signsFrom sign (i + 1 + 1) (to - (i + 1)) r))
+  codes-first l =
+      let z : to - i ≡ suc (to - (i + 1)) = omega arith in
+      rw z (sign-first sign x (i + 1) (to - (i + 1)) r h)
+
+  -- the first has the sign
+  pub codes-here : i < to → (y : ℕ) → y ≡ here → y ≡ x → isIn x (signsFrom sign (i + 1) (to - i) r) ≡ true
+  codes-here l y e d =
+      let z : eqb x here ≡ true = eq-eqb x here (sym d ∙ e) in
+      codes-first l ∙ rw z
+
+  -- it has another, or none
+  pub codes-past : i < to → (y : ℕ) → y ≡ here → (y ≡ x → ⊥) → isIn x (signsFrom sign (i + 1) (to - i) r) ≡ isIn x (signsFrom sign (i + 1 + 1) (to - (i + 1)) r)
+  codes-past l y e d =
+      let z : eqb x here ≡ false = ne-eqb x here (λ q. d (e ∙ sym q)) in
+      codes-first l ∙ rw z
+
+  -- none is left
+  pub codes-none : to ≤ i → isIn x (signsFrom sign (i + 1) (to - i) r) ≡ false
+  unfolding isIn signsFrom
+  codes-none l =
+      let z : to - i ≡ 0 = omega arith in
+      rw z
+
+-- the codes of Zaslinky are its texts 4 to 6
+pub line-stop-codes : (i : ℕ) → 4 ≤ i → i < 7 → CodeAt 7 (i + 1)
+unfolding linkOf links link.zaslinky
+line-stop-codes i h l =
+    either (eqb i 4)
+    (λ t. let z : i + 1 ≡ 5 = omega (arith, eqb-true i 4 t) in rw z (code-kind 7 5 refl))
+    (λ t.
+    either (eqb i 5)
+    (λ u. let z : i + 1 ≡ 6 = omega (arith, eqb-true i 5 u) in rw z (code-kind 7 6 refl))
+    (λ u.
+    let p = eqb-false i 4 t in
+    let q = eqb-false i 5 u in
+    let z : i + 1 ≡ 7 = omega arith in
+    rw z (code-kind 7 7 refl)))
+
+-- where its record was cut, its signs are those of the record at the place
+pub line-stop-signs : (sign : ℕ → ℕ) (x : ℕ) (s : List ℕ) (at : ℕ) {old places : List ℕ} {end : ℕ} → Cuts (fieldsOf 7) s at old places end → {y : Bool}
+    → y ≡ isIn x (signsFrom sign 5 3 (texts 7 s places)) → y ≡ isIn x (signsFrom sign 5 3 (recordAt 7 s at))
+line-stop-signs sign x s at c e =
+    let z = cut-first (fieldsOf 7) s at _ _ _ c in
+    rw z e
+
+-- those of Zasspoje are its texts 5 and 6
+pub trip-stop-codes : (i : ℕ) → 5 ≤ i → i < 7 → CodeAt 8 (i + 1)
+unfolding linkOf links link.zasspoje
+trip-stop-codes i h l =
+    either (eqb i 5)
+    (λ u. let z : i + 1 ≡ 6 = omega (arith, eqb-true i 5 u) in rw z (code-kind 8 6 refl))
+    (λ u.
+    let q = eqb-false i 5 u in
+    let z : i + 1 ≡ 7 = omega arith in
+    rw z (code-kind 8 7 refl))
+
+-- its first field is a number
+pub line-number : NumberAt 8 1
+unfolding numeric kindOf kinds kind.zasspoje fieldsOf fieldCounts
+line-number = (refl, omega arith, omega arith)
+
+-- THE LINE'S STOP of a trip's stop. A key of two numbers is that of fields 1 and 2.
+stop-key : (line tariff : ℕ) (q : Fields) → both (eqb (number 1 q) line) (eqb (number 2 q) tariff) ≡ same (keyOf 7 q) (line ∷ tariff ∷ [])
+unfolding keyFields keyTable numbers same ofTrip
+stop-key line tariff q = of-trip-fields 7 [] refl line tariff q
+
+pub two-numbers : length (keyFields 7) ≡ 2
+unfolding keyFields keyTable
+two-numbers = refl
+
+-- where no record has a key, none is the first
+none-first : (k : List ℕ) (at : ℕ) (rs : List Fields) → firstWith 7 k at rs ≡ Nothing → firstOr [] (λ q. same (keyOf 7 q) k) rs ≡ []
+unfolding firstWith firstOr
+none-first k at [] e = refl
+none-first k at (r ∷ rs) e =
+    either (same (keyOf 7 r) k)
+    (λ t.
+    let d : At at ≡ Nothing = rw t at e in
+    let z : _≡_ {A = ℕ} 0 1 = cc in
+    absurd (omega arith))
+    (λ t. rw t (none-first k (at + length (writtenRecord r)) rs (rw t at e)))
+
+-- it is looked for by its line and its tariff number
+module _ (codes : List Fields) (s : List ℕ) (r : Fields) (line tariff : ℕ) (a : line ≡ number 1 r) (b : tariff ≡ third 8 r) where
+  abbrev lineStops : List Fields
+  lineStops = recordsIn (fieldsOf 7) s
+
+  by-key : lineStopAt codes lineStops r ≡ firstOr [] (λ q. same (keyOf 7 q) (line ∷ tariff ∷ [])) lineStops
+  unfolding lineStopAt
+  by-key =
+      rw (← a, ← b)
+      (first-same [] (λ q. both (eqb (number 1 q) line) (eqb (number 2 q) tariff)) (λ q. same (keyOf 7 q) (line ∷ tariff ∷ [])) (stop-key line tariff) lineStops)
+
+  -- found
+  module _ (f : KeyFile 7 s) (l : line < none) (t : tariff < none) {found : Found} (look : found ≡ firstWith 7 (line ∷ tariff ∷ []) 0 lineStops) (p : ℕ) (d : found ≡ At p) where
+    there : firstWith 7 (line ∷ tariff ∷ []) 0 lineStops ≡ At p
+    there = sym look ∙ d
+
+    pub stop-found : PlaceIn 7 s p × (p < length s)
+    unfolding Small keyFields keyTable
+    stop-found =
+        let k = line ∷ tariff ∷ [] in
+        let small : Small k = (l, (t, tt)) in
+        let q = found-place (fieldsOf 7) (rankOf 7) s (rank k) p (f .legal) (sym (first-with 7 k (f .keyed) small refl 0 lineStops (f .keys)) ∙ there) in
+        (q .place, q .within)
+
+    stop-is : lineStopAt codes lineStops r ≡ recordAt 7 s p
+    stop-is = by-key ∙ first-found 7 s (line ∷ tariff ∷ []) p (f .legal) there
+
+    pub stop-there : (x : ℕ) {y : Bool} → y ≡ isIn x (signsFrom (λ c. signIn codes c) 5 3 (recordAt 7 s p))
+        → y ≡ isIn x (signsFrom (λ c. signIn codes c) 5 3 (lineStopAt codes lineStops r))
+    stop-there x e = rw stop-is e
+
+  -- not found: then there are no signs
+  pub stop-none : {found : Found} → found ≡ firstWith 7 (line ∷ tariff ∷ []) 0 lineStops → found ≡ Nothing → (x : ℕ)
+      → false ≡ isIn x (signsFrom (λ c. signIn codes c) 5 3 (lineStopAt codes lineStops r))
+  unfolding isIn signsFrom
+  stop-none look d x = rw (by-key ∙ none-first (line ∷ tariff ∷ []) 0 lineStops (sym look ∙ d))
+
+-- THE SIGNS OF A STOP. One of two lists has it, and one of those that are selected.
+in-append : (x : ℕ) (a b : List ℕ) → isIn x (a ++ b) ≡ oneOf (isIn x a) (isIn x b)
+unfolding isIn
+in-append x [] b = refl
+in-append x (y ∷ a) b =
+    either (eqb x y)
+    (λ t. rw t)
+    (λ t. rw t (in-append x a b))
+
+in-select : (x d : ℕ) (l : List ℕ) → isIn x (select (λ y. eqb y d) l) ≡ both (eqb x d) (isIn x l)
+unfolding isIn select
+in-select x d [] = either (eqb x d) (λ t. rw t) (λ t. rw t)
+in-select x d (y ∷ l) =
+    either (eqb x d)
+    (λ t.
+    either (eqb y d)
+    (λ u. rw (u, in-select x d l, t))
+    (λ u.
+    let z : eqb x y ≡ false = ne-eqb x y (λ q. eqb-false y d u (sym q ∙ eqb-true x d t)) in
+    rw (u, z, in-select x d l, t)))
+    (λ t.
+    either (eqb y d)
+    (λ u.
+    let z : eqb x y ≡ false = ne-eqb x y (λ q. eqb-false x d t (q ∙ eqb-true y d u)) in
+    rw (u, z, in-select x d l, t))
+    (λ u. rw (u, in-select x d l, t)))
+
+-- own codes: none is given, or one is
+own-none : (sign : ℕ → ℕ) (r : Fields) → length (field 6 r) + length (field 7 r) ≡ 0 → eqb (length (signsFrom sign 6 2 r)) 0 ≡ true
+unfolding signsFrom
+own-none sign r h =
+    let a : isEmpty (field 6 r) ≡ true = eq-eqb (length (field 6 r)) 0 (omega arith) in
+    let b : isEmpty (field 7 r) ≡ true = eq-eqb (length (field 7 r)) 0 (omega arith) in
+    rw (a, b)
+
+one-more : (y : ℕ) (l : List ℕ) → eqb (length (y ∷ l)) 0 ≡ false
+one-more y l = ne-eqb (length (y ∷ l)) 0 (λ z. omega arith)
+
+own-some : (sign : ℕ → ℕ) (r : Fields) → (length (field 6 r) + length (field 7 r) ≡ 0 → ⊥) → eqb (length (signsFrom sign 6 2 r)) 0 ≡ false
+unfolding signsFrom
+own-some sign r h =
+    either (isEmpty (field 6 r))
+    (λ a.
+    let b : isEmpty (field 7 r) ≡ false = ne-eqb (length (field 7 r)) 0 (λ z. h (omega (arith, z, eqb-true (length (field 6 r)) 0 a))) in
+    rw (a, b))
+    (λ a. rw a (one-more (sign (value (field 6 r))) (signsFrom sign 7 1 r)))
+
+module _ (codes lineStops : List Fields) (r : Fields) (x : ℕ) where
+  abbrev own : Bool
+  own = isIn x (signsFrom (λ c. signIn codes c) 6 2 r)
+
+  abbrev theirs : Bool
+  theirs = isIn x (signsFrom (λ c. signIn codes c) 5 3 (lineStopAt codes lineStops r))
+
+  -- a stop with no code of its own has the signs of the line's stop
+  pub signs-theirs : length (field 6 r) + length (field 7 r) ≡ 0 → {y : Bool} → y ≡ theirs → y ≡ isIn x (plainSigns codes lineStops r)
+  unfolding plainSigns
+  signs-theirs h e = rw (own-none (λ c. signIn codes c) r h) e
+
+  -- one with a code has its own, and a `$` of the line's stop
+  signs-own : (length (field 6 r) + length (field 7 r) ≡ 0 → ⊥) → isIn x (plainSigns codes lineStops r) ≡ oneOf own (both (eqb x 36) theirs)
+  unfolding plainSigns
+  signs-own h =
+      let l = signsFrom (λ c. signIn codes c) 5 3 (lineStopAt codes lineStops r) in
+      rw (own-some (λ c. signIn codes c) r h)
+      (in-append x (signsFrom (λ c. signIn codes c) 6 2 r) (select (λ y. eqb y 36) l) ∙ rw (in-select x 36 l))
+
+  module _ (h : length (field 6 r) + length (field 7 r) ≡ 0 → ⊥) {o : Bool} (mine : o ≡ own) where
+    -- its own have it
+    pub signs-here : o ≡ true → true ≡ isIn x (plainSigns codes lineStops r)
+    signs-here e =
+        let z : own ≡ true = sym mine ∙ e in
+        rw (signs-own h, z)
+
+    -- they don't, and it is no `$`
+    pub signs-other : o ≡ false → (x ≡ 36 → ⊥) → false ≡ isIn x (plainSigns codes lineStops r)
+    signs-other e d =
+        let z : own ≡ false = sym mine ∙ e in
+        rw (signs-own h, z, ne-eqb x 36 d)
+
+    -- they don't, and it is a `$`
+    pub signs-dollar : o ≡ false → x ≡ 36 → {y : Bool} → y ≡ theirs → y ≡ isIn x (plainSigns codes lineStops r)
+    signs-dollar e d g =
+        let z : own ≡ false = sym mine ∙ e in
+        let w : eqb x 36 ≡ true = eq-eqb x 36 d in
+        rw (signs-own h, z, w) g

@@ -1,16 +1,16 @@
 -- Whether a trip runs: a trip's record is the one that is found by its key, a key that a record has is of small numbers, and on a batch with no fault
 -- each trip's line is there and the records say what the line's view says.
-use mathlib.Core.Path.{_≡_, refl, sym, ap, _∙_}
-use mathlib.Core.Bool.{Bool, true, false}
+use mathlib.Core.Path.{_≡_, refl, ap, _∙_}
+use mathlib.Core.Bool.{true, false}
 use mathlib.Core.List.{List, [], _∷_}
 use mathlib.Core.Logic.{_⊎_, inl, inr}
 use Prim.Native.Nat.{ℕ, _≤_, _<_}
 use native.Mathlib.Omega.{arith}
 use lib.Dec.{eqb}
-use lib.ListN.{length, getD, take}
+use lib.ListN.{length, getD}
 use borrow.Author.Tests.{lt-leb, le-leb}
 use Rattle.laws.specs.Tests.{pick, both, either, never, clash}
-use Rattle.laws.specs.Numbered.{Numbered, answered, refused}
+use Rattle.laws.specs.Numbered.{answered, refused}
 use Rattle.calendar.specs.Answers.{bit}
 use Rattle.file.specs.Files.{fieldsOf}
 use Rattle.file.specs.Format.{Fields}
@@ -24,11 +24,10 @@ use Rattle.keys.specs.Keys.{keyFields, keyTable, keyOf, numbers, same, has, fir
 use Rattle.keys.specs.KeyFiles.{KeyFile}
 use Rattle.keys.specs.Ranks.{AllKeyed, Small, recordAt}
 use Rattle.keys.proofs.KeyLaws.{key-small, has-found, has-none}
-use Rattle.link.specs.Met.{Linking, Reaches, Stands, number}
+use Rattle.link.specs.Met.{Linking, number}
 use Rattle.link.specs.Signs.{codesFile}
 use Rattle.link.proofs.HasLaws.{one-cases, same-equal, has-holds, holds-has}
 use Rattle.thirteen.specs.Batch.{Batch, fileIn, recordsOf}
-use Rattle.trail.specs.Lists.{firstOr}
 use Rattle.trip.specs.Stage.{tripsFile}
 use Rattle.trip.specs.View.{viewOf, runsOn}
 use Rattle.trip.proofs.ViewLaws.{trip-fields, first-same, first-found}
@@ -40,7 +39,7 @@ use Rattle.trips.proofs.ReadyLaws.{ready-file}
 use Rattle.batch.specs.Answers.{numberedFault}
 use Rattle.batch.specs.Order.{faultOf}
 use Rattle.batch.specs.declared.Fault.{Fault}
-use Rattle.batch.proofs.AcceptedLaws.{standing}
+use Rattle.batch.proofs.AcceptedLaws.{kept, standing}
 use Rattle.counter.specs.Answers.{hasTrip, runsAnswer}
 use Rattle.counter.specs.Plain.{LineMet, tripRecord, plainAnswer}
 
@@ -175,8 +174,8 @@ module _ (b : Batch) (line trip d : ℕ) (holidays : List ℕ) where
   runs-no-day e h = rw (e, lt-leb d 73048 h)
 
   -- and on a day of the calendar the records say it
-  pub runs-plain : faultOf b ≡ answered [] → d ≤ 73048 → LegalFrom (fieldsOf tripsFile) (fileIn b tripsFile) 0
+  pub runs-plain : faultOf b ≡ answered [] → d ≤ 73048
       → plainAnswer (recordsOf b codesFile) (recordsOf b linesFile) (recordsOf b tripsFile) (recordsOf b timeCodesFile) line trip d holidays
       ≡ runsAnswer b line trip d holidays
   unfolding runsAnswer
-  runs-plain e h l = rw (e, le-leb d 73048 h) (answer-view b line trip d holidays l)
+  runs-plain e h = rw (e, le-leb d 73048 h) (answer-view b line trip d holidays (kept b e .legal tripsFile (omega arith) (omega arith)))

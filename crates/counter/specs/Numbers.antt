@@ -3,11 +3,11 @@ use mathlib.Core.List.{[], _∷_}
 use Rattle.laws.specs.Numbered.{Numbered, answered, refused}
 use Rattle.calendar.specs.Answers.{bit}
 use Rattle.batch.specs.Answers.{numberedFault}
-use Rattle.counter.specs.declared.Runs.{Runs}
+use Rattle.counter.specs.declared.Running.{Running}
 
-unfoldable pub numberedRuns : Runs → Numbered
-numberedRuns (Runs.Refused f) = numberedFault f
-numberedRuns Runs.NoDay = refused 12
-numberedRuns Runs.NoTrip = refused 13
-numberedRuns Runs.Yes = answered (1 ∷ [])
-numberedRuns Runs.Not = answered (0 ∷ [])
+unfoldable pub numberedRuns : Running → Numbered
+numberedRuns (Running.Refused f) = numberedFault f
+numberedRuns Running.NoDay = refused 12
+numberedRuns Running.NoTrip = refused 13
+numberedRuns Running.Yes = answered (1 ∷ [])
+numberedRuns Running.Not = answered (0 ∷ [])

@@ -21,7 +21,7 @@ ghost use Rattle.counter.specs.Numbers.{numberedRuns};
 ghost use Rattle.counter.specs.Plain.{LineMet, plainAnswer};
 
 // Whether a trip runs on a day.
-pub enum Runs {
+pub enum Running {
     // The batch's own refusal.
     Refused(Fault),
     // The day is none of the calendar's.
@@ -47,15 +47,15 @@ fn answer_runs(
     class: &[u8; 256],
     d: u64,
     holidays: &[u64],
-) -> Runs
+) -> Running
     requires { ⌜ LineMet (recordsIn (fieldsOf linesFile) (now f5)) (recordsIn (fieldsOf tripsFile) (now f6)) line trip × Ready codesFile (now f3) (now order) (now ways) × Ready linesFile (now f5) (now order) (now ways) × Ready tripsFile (now f6) (now order) (now ways) × Ready timeCodesFile (now f10) (now order) (now ways) × Classes (now class) × (d ≤ 73048) ⌝ }
     ensures { λ r. ⌜ numberedRuns r ≡ plainAnswer (recordsIn (fieldsOf codesFile) (now (f3 .entry))) (recordsIn (fieldsOf linesFile) (now (f5 .entry))) (recordsIn (fieldsOf tripsFile) (now (f6 .entry))) (recordsIn (fieldsOf timeCodesFile) (now (f10 .entry))) line trip d (now (holidays .entry)) ⌝ }
 {
     if line >= 1000000000 {
-        return Runs::NoTrip;
+        return Running::NoTrip;
     }
     if trip >= 1000000000 {
-        return Runs::NoTrip;
+        return Running::NoTrip;
     }
     match by_two(6, f6, order, ways, 0, line, trip) {
         Found::At(at) => {
@@ -73,12 +73,12 @@ fn answer_runs(
                 d,
                 holidays,
             ) {
-                Runs::Yes
+                Running::Yes
             } else {
-                Runs::Not
+                Running::Not
             }
         }
-        Found::Nothing => Runs::NoTrip,
+        Found::Nothing => Running::NoTrip,
     }
 }
 
@@ -102,7 +102,7 @@ pub fn runs<'a>(
     trip: u64,
     d: u64,
     holidays: &[u64],
-) -> Runs
+) -> Running
     ensures { λ r. ⌜ numberedRuns r ≡ runsAnswer (thirteen (now (f1 .entry)) (now (f2 .entry)) (now (f3 .entry)) (now (f4 .entry)) (now (f5 .entry)) (now (f6 .entry)) (now (f7 .entry)) (now (f8 .entry)) (now (f9 .entry)) (now (f10 .entry)) (now (f11 .entry)) (now (f12 .entry)) (now (f13 .entry))) line trip d (now (holidays .entry)) ⌝ }
 {
     let class = classes();
@@ -126,10 +126,10 @@ pub fn runs<'a>(
         &class,
     );
     if !is_none(fault) {
-        return Runs::Refused(fault);
+        return Running::Refused(fault);
     }
     if d > 73048 {
-        return Runs::NoDay;
+        return Running::NoDay;
     }
     answer_runs(
         line,

@@ -1,6 +1,6 @@
 // Questions about a batch's trips for C. Bytes and lists are lent for the call alone; nothing is written.
 use super::batches::handed;
-use counter::Runs;
+use counter::Running;
 use counter::runs;
 ghost use mathlib.Core.Path.{_≡_};
 ghost use Rattle.thirteen.specs.Batch.{thirteen};
@@ -33,11 +33,11 @@ fn plain_runs(number: u64, runs: u64) -> RunsResult
 }
 
 // Document 01's number, place and value of an answer.
-fn runs_handed(answer: Runs) -> RunsResult
+fn runs_handed(answer: Running) -> RunsResult
     ensures { λ r. ⌜ r ≡ runsResult (numberedRuns answer) ⌝ }
 {
     match answer {
-        Runs::Refused(fault) => {
+        Running::Refused(fault) => {
             let p = handed(fault);
             RunsResult {
                 number: p.number,
@@ -48,10 +48,10 @@ fn runs_handed(answer: Runs) -> RunsResult
                 runs: 0,
             }
         }
-        Runs::NoDay => plain_runs(12, 0),
-        Runs::NoTrip => plain_runs(13, 0),
-        Runs::Yes => plain_runs(0, 1),
-        Runs::Not => plain_runs(0, 0),
+        Running::NoDay => plain_runs(12, 0),
+        Running::NoTrip => plain_runs(13, 0),
+        Running::Yes => plain_runs(0, 1),
+        Running::Not => plain_runs(0, 0),
     }
 }
 

@@ -1,0 +1,66 @@
+-- `counter::runs` meets its contract: the batch is checked first, and where there is no fault, what the records say is the answer.
+use mathlib.Core.Path.{sym, _∙_}
+use Prim.Native.Nat.{_≤_}
+use native.Mathlib.Omega.{arith}
+use lib.ListN.{length}
+use borrow.Author.Needs.{needs}
+use borrow.Author.Tests.{not-true, not-false}
+use Rattle.thirteen.specs.Batch.{fileIn}
+use Rattle.counter.specs.Numbers.{numberedRuns}
+use Rattle.counter.proofs.RunsLaws.{asked, no-fault, runs-refused, runs-no-day, runs-plain}
+use Rattle.counter.proofs.runs.Statement.{statement}
+use Rattle.counter.proofs.runs.Tie as tie
+
+returns : tie.Need-returns
+unfolding numberedRuns
+returns c =
+    let n = c .before in
+    runs-refused _ _ _ _ _ _ (n .before .before .check-with .ensures .0) (sym (n .is-none .ensures) ∙ not-true (n .is-none .result) (c .if1 .taken))
+
+returns-2 : tie.Need-returns-2
+unfolding numberedRuns
+returns-2 c =
+    let l = c .before in
+    let n = l .before in
+    let k = n .before .before .check-with in
+    let e = no-fault _ (sym (n .is-none .ensures) ∙ not-false (n .is-none .result) (l .if1 .left)) in
+    runs-no-day _ _ _ _ _ (sym (k .ensures .0) ∙ e) (c .if2 .taken)
+
+slice-aggregate-answer-runs : tie.Need-slice-aggregate-answer-runs
+slice-aggregate-answer-runs c = search needs
+
+answer-runs-requires : tie.Need-answer-runs-requires
+unfolding fileIn
+answer-runs-requires c κs =
+    let t = c .before .before in
+    let l = t .before in
+    let n = l .before in
+    let k = n .before .before .check-with in
+    let e = no-fault _ (sym (n .is-none .ensures) ∙ not-false (n .is-none .result) (l .if1 .left)) in
+    let none = sym (k .ensures .0) ∙ e in
+    let h : 33 ≤ length (k .last .1 .1 .1 .1 .1 .1 .1 .1 .1 .1 .1 .1 .1 .1 .0) = omega (arith, slice-aggregate-answer-runs (c .before)) in
+    let q = asked _ _ _ _ _ none (k .ensures .1 none) h in
+    (q .met, q .codes, q .lines, q .trips, q .times, n .before .before .before .before .before .classes .ensures, t .if2 .left)
+
+returns-3 : tie.Need-returns-3
+unfolding fileIn
+returns-3 c =
+    let t = c .before .before .before in
+    let l = t .before in
+    let n = l .before in
+    let e = no-fault _ (sym (n .is-none .ensures) ∙ not-false (n .is-none .result) (l .if1 .left)) in
+    c .answer-runs .ensures ∙ runs-plain _ _ _ _ _ (sym (n .before .before .check-with .ensures .0) ∙ e) (t .if2 .left)
+
+pub runs-spec : {M : Type 1} → statement M
+runs-spec =
+    tie.close
+    (tie.spec
+    (λ c κs. search needs)  -- classes-requires
+    (λ c. search needs)  -- slice-aggregate-check-with
+    (λ c κs. search needs)  -- check-with-requires
+    (λ c κs. search needs)  -- is-none-requires
+    returns
+    returns-2
+    slice-aggregate-answer-runs
+    answer-runs-requires
+    returns-3)

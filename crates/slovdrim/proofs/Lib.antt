@@ -1,1 +1,2 @@
 pub mod FileResults
+pub mod QuestionResults

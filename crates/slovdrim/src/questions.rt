@@ -73,10 +73,10 @@ pub extern "C" fn slovdrim_runs<'a>(
     f13: &'a [u8],
     line: u64,
     trip: u64,
-    day_number: u64,
+    day: u64,
     holidays: &[u64],
 ) -> RunsResult
-    ensures { λ r. ⌜ r ≡ runsResult (runsAnswer (thirteen (now (f1 .entry)) (now (f2 .entry)) (now (f3 .entry)) (now (f4 .entry)) (now (f5 .entry)) (now (f6 .entry)) (now (f7 .entry)) (now (f8 .entry)) (now (f9 .entry)) (now (f10 .entry)) (now (f11 .entry)) (now (f12 .entry)) (now (f13 .entry))) line trip day_number (now (holidays .entry))) ⌝ }
+    ensures { λ r. ⌜ r ≡ runsResult (runsAnswer (thirteen (now (f1 .entry)) (now (f2 .entry)) (now (f3 .entry)) (now (f4 .entry)) (now (f5 .entry)) (now (f6 .entry)) (now (f7 .entry)) (now (f8 .entry)) (now (f9 .entry)) (now (f10 .entry)) (now (f11 .entry)) (now (f12 .entry)) (now (f13 .entry))) line trip day (now (holidays .entry))) ⌝ }
 {
     let zero: [u32; 1] = [0; 1];
     let list = &zero[..0];
@@ -97,7 +97,7 @@ pub extern "C" fn slovdrim_runs<'a>(
         list,
         line,
         trip,
-        day_number,
+        day,
         holidays,
     );
     runs_handed(answer)

@@ -9,9 +9,10 @@ use Rattle.file.specs.declared.Refusal.{Refusal}
 use Rattle.batch.specs.Answers.{numberedFault}
 use Rattle.batch.specs.declared.Fault.{Fault}
 use Rattle.slovdrim.specs.Checks.{checkResult}
-use Rattle.slovdrim.specs.Questions.{runsResult}
+use Rattle.slovdrim.specs.Questions.{runsResult, stopResult, plainStopResult}
 use Rattle.slovdrim.specs.declared.batches.CheckResult.{CheckResult}
 use Rattle.slovdrim.specs.declared.questions.RunsResult.{RunsResult}
+use Rattle.slovdrim.specs.declared.questions.TripStopResult.{TripStopResult}
 
 -- a fault has no values
 file-values : (why : Refusal) → numbered why .values ≡ []
@@ -42,3 +43,10 @@ runsAt p = record { number = p .number; file = p .file; «record» = p .«record
 pub refused-runs : (f : Fault) → runsAt (checkResult (numberedFault f)) ≡ runsResult (numberedFault f)
 unfolding checkResult runsResult
 refused-runs f = rw (fault-values f)
+
+abbrev pub stopAtPlace : CheckResult → TripStopResult
+stopAtPlace p = plainStopResult (p .number) (p .file) (p .«record») (p .field) (p .offset)
+
+pub refused-stop : (f : Fault) → stopAtPlace (checkResult (numberedFault f)) ≡ stopResult (numberedFault f)
+unfolding checkResult stopResult
+refused-stop f = rw (fault-values f)

@@ -1,0 +1,4 @@
+pub mod Halt
+pub mod Plain
+pub mod Answers
+pub mod Numbers

@@ -8,7 +8,7 @@ use native.Mathlib.Omega.{arith}
 use lib.Dec.{eqb, leb}
 use lib.ListN.{length, getD, drop, length-drop}
 use lib.Seq.{getD-drop, drop-drop}
-use borrow.Author.Tests.{eqb-true, leb-true, lt-ltb, le-leb, lt-leb, not-true, not-false}
+use borrow.Author.Tests.{eqb-true, leb-true, lt-ltb, le-leb, lt-leb, not-true}
 use Rattle.laws.specs.Tests.{pick, both, oneOf, either, both-left, both-right}
 use Rattle.laws.specs.Numbered.{Numbered, answered, refused}
 use Rattle.file.specs.Files.{fieldsOf, fieldCounts}
@@ -39,7 +39,7 @@ use Rattle.trail.specs.Trail.{upward, ahead, after}
 use Rattle.trail.proofs.ListLaws.{All, select-pass, all-rising, each-length}
 use Rattle.trip.specs.Stops.{arrives, departs, timed, arrivalMinute, departureMinute}
 use Rattle.trip.specs.Track.{minuteOr, visitOf}
-use Rattle.trip.specs.View.{Signed, View, nobody, tripStopSigns, withSigns, viewOf, stopsOf, stopTexts, stopSigns}
+use Rattle.trip.specs.View.{Signed, nobody, tripStopSigns, viewOf, stopsOf, stopSigns}
 use Rattle.trip.specs.declared.course.Visit.{Visit}
 use Rattle.trip.proofs.StopLaws.{arrival-own, departure-own}
 use Rattle.trip.proofs.ViewLaws.{stop-fields, view-signed-stops}
@@ -56,7 +56,6 @@ use Rattle.batch.proofs.OrderLaws.{none-zero, is-zero}
 use Rattle.calls.specs.Answers.{stopAnswer}
 use Rattle.calls.specs.Halt.{stopAt, minuteBefore, arrivalOf, departureOf, isLast, signSum, haltOf}
 use Rattle.calls.specs.Plain.{haltNumbers, plainHalt, plainNth, plainStop}
-use Rattle.calls.specs.declared.Halt.{Halt}
 
 -- THE SIGNS. A weight is no more than it is where it counts.
 pub weight-most : (t : Bool) (much n : ℕ) → n ≡ pick t much 0 → n ≤ much

@@ -1,7 +1,6 @@
 -- The question for a trip's stop. A question on a batch that isn't accepted gives that batch's refusal.
 use Prim.Native.Nat.{ℕ, _-_}
-use mathlib.Core.Bool.{Bool}
-use mathlib.Core.List.{List, [], _∷_}
+use mathlib.Core.List.{[], _∷_}
 use lib.Dec.{leb}
 use lib.ListN.{length}
 use Rattle.laws.specs.Tests.{pick, both}

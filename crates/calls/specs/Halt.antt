@@ -5,7 +5,6 @@ use mathlib.Core.List.{List, [], _∷_}
 use lib.ListN.{getD, length, take, drop}
 use Rattle.laws.specs.Tests.{pick, both}
 use Rattle.calendar.specs.Answers.{bit}
-use Rattle.file.specs.Format.{Fields}
 use Rattle.keys.specs.Keys.{third}
 use Rattle.link.specs.Met.{number}
 use Rattle.link.specs.Signs.{isIn}

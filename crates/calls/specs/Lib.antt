@@ -2,3 +2,4 @@ pub mod Halt
 pub mod Plain
 pub mod Answers
 pub mod Numbers
+pub mod OneResult

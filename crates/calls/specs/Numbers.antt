@@ -1,5 +1,4 @@
 -- Document 01's number and values for each case of the answer.
-use mathlib.Core.List.{[], _∷_}
 use Rattle.laws.specs.Numbered.{Numbered, answered, refused}
 use Rattle.batch.specs.Answers.{numberedFault}
 use Rattle.calls.specs.Plain.{haltNumbers}

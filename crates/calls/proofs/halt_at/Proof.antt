@@ -1,16 +1,23 @@
 -- `calls::halt_at` meets its contract: the record is cut, and each number of the answer is read of it.
-use mathlib.Core.Path.{_≡_, sym, ap, _∙_}
+use mathlib.Core.Path.{sym, ap, _∙_}
+use mathlib.Core.Bool.{Bool}
+use Prim.Native.Nat.{ℕ}
 use native.Mathlib.Omega.{arith}
 use borrow.Author.Needs.{needs}
 use denote.Ref.{now}
+use lib.ListN.{length, drop}
 use Rattle.file.specs.Files.{fieldsOf, fieldCounts}
 use Rattle.file.specs.Format.{Text}
 use Rattle.file.specs.Records.{recordsIn}
 use Rattle.field.specs.Values.{value}
 use Rattle.rules.specs.Texts.{Kinded}
 use Rattle.amiss.proofs.RecordLaws.{number-part, number-text}
+use Rattle.trail.specs.Lists.{some}
 use Rattle.trail.proofs.NumberLaws.{third-text}
+use Rattle.trip.specs.Stops.{timed}
+use Rattle.coded.specs.Left.{leftAt}
 use Rattle.coded.proofs.LeftLaws.{left-here, left-kinded}
+use Rattle.calling.specs.Calling.{travelled, goesUp}
 use Rattle.calling.proofs.CallingLaws.{three-numbers}
 use Rattle.calls.proofs.CallsLaws.{stop-there, halt-is}
 use Rattle.calls.proofs.halt_at.Statement.{statement}
@@ -35,6 +42,13 @@ module _ (q : tie.After-cut) where
       let a = start .args in
       let p = start .pre in
       left-kinded 8 (now (a .f8)) (now (a .order)) (now (a .ways)) (p .6) (a .at) (p .0) (p .1) (q .cut .ensures)
+
+  -- whether one with a time comes behind it, and how many stops the trip has
+  abbrev later : Bool
+  later = some timed (drop 1 (leftAt 8 (now (start .args .f8)) (goesUp (start .args .trip)) (start .args .line) (start .args .trip) (start .args .at)))
+
+  abbrev number : ℕ
+  number = length (travelled (start .args .line) (start .args .trip) (recordsIn (fieldsOf 8) (now (start .args .f8))))
 
 visit-of-requires : tie.Need-visit-of-requires
 visit-of-requires c κs = kinded (c .before)
@@ -83,7 +97,7 @@ returns c =
     let a = start q .args in
     let t = third-text 8 (now (a .f8)) (q .cut .last .1 .1 .1 .1 .0) (omega arith, omega arith) three-numbers (kinded q) _ (n .before .part .ensures) in
     let s = number-text (kinded q) 4 (u .before .part2 .ensures) stop-there in
-    halt-is (recordsIn (fieldsOf 3) (now (a .f3))) (recordsIn (fieldsOf 7) (now (a .f7))) (now (a .f8)) (a .at) (q .cut .ensures) (v .visit-of .ensures)
+    halt-is (recordsIn (fieldsOf 3) (now (a .f3))) (recordsIn (fieldsOf 7) (now (a .f7))) (now (a .f8)) (a .at) (q .cut .ensures) (v .visit-of .ensures) {count = number q} {behind = later q}
     (n .value-of .ensures ∙ t .worth)
     (u .value-of2 .ensures ∙ ap (λ (x : Text). value x) (sym s))
     (d .before .weight .ensures)

@@ -201,6 +201,24 @@ pub extern "C" fn slovdrim_trip_stop<'a>(
 {
     let zero: [u32; 1] = [0; 1];
     let list = &zero[..0];
-    let answer = trip_stop(f1, f2, f3, f4, f5, f6, f7, f8, f9, f10, f11, f12, f13, list, line, trip, nth);
+    let answer = trip_stop(
+        f1,
+        f2,
+        f3,
+        f4,
+        f5,
+        f6,
+        f7,
+        f8,
+        f9,
+        f10,
+        f11,
+        f12,
+        f13,
+        list,
+        line,
+        trip,
+        nth,
+    );
     stop_handed(answer)
 }

@@ -2,8 +2,8 @@
  * slovdrim.h: the C interface of Slovdrim, a proved library for Czech bus timetables in the JDF 1.8 format.
  *
  * This version reads and writes the bytes of one file of a batch, checks its fields, checks a whole batch, says on which days a trip of it runs and
- * where and when it calls, and counts days. Each call answers exactly what its comment says, for every input, or comes back with one numbered refusal; nothing is guessed and nothing
- * is repaired.
+ * where and when it calls, and counts days. Each call answers exactly what its comment says, for every input, or comes back with one numbered
+ * refusal; nothing is guessed and nothing is repaired.
  *
  * For all calls:
  *
@@ -11,8 +11,8 @@
  *    A member that the number doesn't speak of is 0: after a refusal only the place that its comment names is set, after an answer only what was
  *    asked for.
  *  - Records and fields count from 1. Offsets and places count bytes from 0. Day 0 is 1 January 1900.
- *  - Any number may be passed for a file, record, field, place, day, month or year. Those that name nothing are refused, never undefined; any byte may
- *    be passed for a sign.
+ *  - Any number may be passed for a file, record, field, place, line, trip, stop, day, month or year. Those that name nothing are refused, never
+ *    undefined; any byte may be passed for a sign.
  *  - A pointer is lent for the time of the call: the library keeps no pointer, allocates nothing and frees nothing. `length` bytes (or `count` numbers)
  *    from the pointer on must be readable, and for `buffer` writable. NULL is allowed where the length or count is 0. A pointer to uint64_t or
  *    uint32_t must be aligned for it.
@@ -233,13 +233,14 @@ slovdrim_fields_answer slovdrim_fields(uint64_t file, const uint8_t *bytes, size
 /*
  * Trips.
  *
- * A trip's time codes are its records of Caskody, its day signs the signs X + 1 2 3 4 5 6 7 among its codes in Spoje. DAYS_WRONG: two of its typed time
- * codes bear different marks; it has two different types out of 5, 6, 7, 8; type 1 with 7 or 8; type 3 with another type or with a day sign.
+ * A trip's time codes are its records of Caskody, its day signs the signs X + 1 2 3 4 5 6 7 among its codes in Spoje. DAYS_WRONG: two of its time
+ * codes that have a type bear different marks; it has two different types out of 5, 6, 7, 8; type 1 with 7 or 8; type 3 with another type or with a day sign. Time codes
+ * without a type, and signs that say nothing of days, may stand beside type 3.
  *
  * A trip's stops are its records of Zasspoje, in travel order: by rising tariff number if the trip's number is odd, by falling if it is even, in
- * whatever order they stand in the file. A time is HHMM. STOPS_WRONG unless at least two of them have a time; the first such has a departure, no
- * arrival and kilometre 0; the last has an arrival; between them no record has both time fields empty, and one with a time has a departure; `|` and `<`
- * stand between them only; times, arrival before departure, never fall, and kilometres never fall.
+ * whatever order they stand in the file. A time is HHMM. STOPS_WRONG unless all of these hold: at least two of them have a time; the first such has a
+ * departure, no arrival and kilometre 0 (by value); the last such has an arrival; between the two no record has both time fields empty, and one with a
+ * time has a departure; `|` and `<` stand between the two only; times, arrival before departure, never fall; kilometres, those of `|` too, never fall.
  */
 
 typedef struct {
@@ -296,6 +297,81 @@ slovdrim_check_answer slovdrim_check_hinted(const uint8_t *verzejdf, size_t verz
                                             const uint8_t *mistenky, size_t mistenky_length, const uint32_t *order, size_t count);
 
 /*
+ * Questions about the trips of a batch. Each checks the batch first, and a batch that doesn't stand answers with its own refusal, number and place, as
+ * slovdrim_check does.
+ */
+
+typedef struct {
+    uint64_t number;
+    uint64_t file;
+    uint64_t record;
+    uint64_t field;
+    uint64_t offset;
+    uint64_t runs;
+} slovdrim_runs_answer;
+
+/*
+ * Whether the trip of this line and number runs on a day: `runs` is 1 if it does and 0 if it doesn't. `holidays` are `count` day numbers, in any order,
+ * with repeats, and with numbers that are no days.
+ *
+ * It runs on day d exactly if d is within its line's validity (Linky's fields 9 and 10, both days counted) and: where it has time codes of type 3, d is one
+ * of their dates; otherwise no period of type 4 holds d, and either d is a date of type 2, or all of these hold: it has no day sign or one that fits d
+ * (see slovdrim_fits); it has no time code of type 1 or one whose period holds d; it has none of type 5 (6, 7, 8) or the ISO week of d is odd (even, odd,
+ * even), and for 7 and 8 one such period holds d. A period with no to-date is one day.
+ *
+ * After the batch's own refusals: SLOVDRIM_NO_SUCH_DAY for a day number past SLOVDRIM_LAST_DAY; then SLOVDRIM_NO_SUCH_TRIP. Neither has a place.
+ */
+slovdrim_runs_answer slovdrim_runs(const uint8_t *verzejdf, size_t verzejdf_length, const uint8_t *zastavky, size_t zastavky_length,
+                                   const uint8_t *pevnykod, size_t pevnykod_length, const uint8_t *dopravci, size_t dopravci_length,
+                                   const uint8_t *linky, size_t linky_length, const uint8_t *spoje, size_t spoje_length,
+                                   const uint8_t *zaslinky, size_t zaslinky_length, const uint8_t *zasspoje, size_t zasspoje_length,
+                                   const uint8_t *udaje, size_t udaje_length, const uint8_t *caskody, size_t caskody_length,
+                                   const uint8_t *altdop, size_t altdop_length, const uint8_t *altlinky, size_t altlinky_length,
+                                   const uint8_t *mistenky, size_t mistenky_length,
+                                   uint64_t line, uint64_t trip, uint64_t day_number, const uint64_t *holidays, size_t count);
+
+typedef struct {
+    uint64_t number;
+    uint64_t file;
+    uint64_t record;
+    uint64_t field;
+    uint64_t offset;
+    uint64_t tariff;
+    uint64_t stop;
+    uint64_t arrives;
+    uint64_t arrival;
+    uint64_t departs;
+    uint64_t departure;
+    uint64_t signs;
+    uint64_t last;
+    uint64_t stops;
+} slovdrim_trip_stop_answer;
+
+/*
+ * The nth stop, from 1 on, of the trip of this line and number, in travel order: its tariff number and the number of its stop (Zasspoje's fields 3 and 4).
+ * `arrives` is 1 if it has an arrival time, and then `arrival` is its minute of the day, 0 to 1439; else both are 0. `departs` and `departure` likewise.
+ * `last` is 1 if it is the trip's last stop with a time, else 0. `stops` is how many stops the trip has, those without a time among them.
+ *
+ * `signs` is the sum of SLOVDRIM_NO_BOARDING and the others below, for each sign that it has: the signs of its codes in Zasspoje, or, if it has none, those
+ * of the line's stop in Zaslinky; a $ in Zaslinky always counts.
+ *
+ * After the batch's own refusals: SLOVDRIM_NO_SUCH_TRIP; then SLOVDRIM_NO_SUCH if the trip has no such stop. Neither has a place.
+ */
+#define SLOVDRIM_NO_BOARDING 1 /* ( */
+#define SLOVDRIM_NO_ALIGHTING 2 /* ) */
+#define SLOVDRIM_ON_REQUEST 4 /* x */
+#define SLOVDRIM_NO_LOCAL_TRAVEL 8 /* 0xA7: not from such a stop to another such */
+#define SLOVDRIM_NOT_FOR_PASSENGERS 16 /* $ */
+slovdrim_trip_stop_answer slovdrim_trip_stop(const uint8_t *verzejdf, size_t verzejdf_length, const uint8_t *zastavky, size_t zastavky_length,
+                                             const uint8_t *pevnykod, size_t pevnykod_length, const uint8_t *dopravci, size_t dopravci_length,
+                                             const uint8_t *linky, size_t linky_length, const uint8_t *spoje, size_t spoje_length,
+                                             const uint8_t *zaslinky, size_t zaslinky_length, const uint8_t *zasspoje, size_t zasspoje_length,
+                                             const uint8_t *udaje, size_t udaje_length, const uint8_t *caskody, size_t caskody_length,
+                                             const uint8_t *altdop, size_t altdop_length, const uint8_t *altlinky, size_t altlinky_length,
+                                             const uint8_t *mistenky, size_t mistenky_length,
+                                             uint64_t line, uint64_t trip, uint64_t nth);
+
+/*
  * The version of this interface: SLOVDRIM_VERSION of the header that the library was made with. It never refuses.
  */
 #define SLOVDRIM_VERSION 1
@@ -304,7 +380,7 @@ uint64_t slovdrim_version(void);
 /*
  * Days.
  *
- * The calendar has the Gregorian dates of 1900 to 2099. Day 0 is 1 January 1900, a Monday. Every call that takes a day number comes back with
+ * The calendar has the Gregorian dates of 1900 to 2099. Day 0 is 1 January 1900, a Monday. Every call of this part that takes a day number comes back with
  * SLOVDRIM_NO_SUCH_DAY for one past SLOVDRIM_LAST_DAY, and with no other refusal.
  */
 #define SLOVDRIM_LAST_DAY 73048 /* 31 December 2099 */
@@ -388,6 +464,8 @@ SLOVDRIM_LAYOUT(sizeof(slovdrim_stretch_answer) == 56 && offsetof(slovdrim_stret
 SLOVDRIM_LAYOUT(sizeof(slovdrim_write_answer) == 16 && offsetof(slovdrim_write_answer, place) == 8, "layout of slovdrim_write_answer");
 SLOVDRIM_LAYOUT(sizeof(slovdrim_fields_answer) == 40 && offsetof(slovdrim_fields_answer, offset) == 32, "layout of slovdrim_fields_answer");
 SLOVDRIM_LAYOUT(sizeof(slovdrim_check_answer) == 40 && offsetof(slovdrim_check_answer, offset) == 32, "layout of slovdrim_check_answer");
+SLOVDRIM_LAYOUT(sizeof(slovdrim_runs_answer) == 48 && offsetof(slovdrim_runs_answer, runs) == 40, "layout of slovdrim_runs_answer");
+SLOVDRIM_LAYOUT(sizeof(slovdrim_trip_stop_answer) == 112 && offsetof(slovdrim_trip_stop_answer, stops) == 104, "layout of slovdrim_trip_stop_answer");
 SLOVDRIM_LAYOUT(sizeof(slovdrim_day_answer) == 16 && offsetof(slovdrim_day_answer, day) == 8, "layout of slovdrim_day_answer");
 SLOVDRIM_LAYOUT(sizeof(slovdrim_date_answer) == 32 && offsetof(slovdrim_date_answer, year) == 24, "layout of slovdrim_date_answer");
 SLOVDRIM_LAYOUT(sizeof(slovdrim_weekday_answer) == 16 && offsetof(slovdrim_weekday_answer, weekday) == 8, "layout of slovdrim_weekday_answer");

@@ -1,5 +1,5 @@
 /* Times keys, links and signs over batches of about 1, 10 and 60 MB, beside the plain C of plain.c: with rising keys, and shuffled with the right hint.
-   slovdrim_links does the scan and the check of fields too, so the stage's own time is what is left of it when those are taken off, round by round.
+   slovdrim_check does the scan and the check of fields too, so the stage's own time is what is left of it when those are taken off, round by round.
    bench_links SEED ROUNDS; prints medians, and beside each target whether it is met. It fails where the answers differ, not on a missed target. */
 #define _GNU_SOURCE
 #ifdef BENCH_NATIVE
@@ -21,9 +21,9 @@
 #ifndef SLOVDRIM_KEY_USED
 typedef struct {
     uint64_t number, file, record, field, offset;
-} slovdrim_links_answer;
-slovdrim_links_answer slovdrim_links(PAIRS);
-slovdrim_links_answer slovdrim_links_hinted(PAIRS, const uint32_t *order, size_t count);
+} slovdrim_check_answer;
+slovdrim_check_answer slovdrim_check(PAIRS);
+slovdrim_check_answer slovdrim_check_hinted(PAIRS, const uint32_t *order, size_t count);
 #endif
 
 enum { MOST_ROUNDS = 1001, SIZES = 3, ZASSPOJE = 8, PEVNYKOD = 3 };
@@ -35,8 +35,8 @@ enum { MOST_ROUNDS = 1001, SIZES = 3, ZASSPOJE = 8, PEVNYKOD = 3 };
 #ifdef BENCH_NATIVE
 slovdrim_records_answer *fill_records(slovdrim_records_answer *out, uint64_t file, const uint8_t *bytes, size_t length) __asm__("slovdrim_records");
 slovdrim_fields_answer *fill_fields(slovdrim_fields_answer *out, uint64_t file, const uint8_t *bytes, size_t length) __asm__("slovdrim_fields");
-slovdrim_links_answer *fill_links(slovdrim_links_answer *out, PAIRS) __asm__("slovdrim_links");
-slovdrim_links_answer *fill_hinted(slovdrim_links_answer *out, PAIRS, const uint32_t *order, size_t count) __asm__("slovdrim_links_hinted");
+slovdrim_check_answer *fill_links(slovdrim_check_answer *out, PAIRS) __asm__("slovdrim_check");
+slovdrim_check_answer *fill_hinted(slovdrim_check_answer *out, PAIRS, const uint32_t *order, size_t count) __asm__("slovdrim_check_hinted");
 #define ANSWER(type, fill, call, ...)                                                                                                                        \
     type a;                                                                                                                                                  \
     fill(&a, __VA_ARGS__);                                                                                                                                   \
@@ -55,17 +55,17 @@ static slovdrim_fields_answer proved_fields(unsigned file, const struct batch *b
     ANSWER(slovdrim_fields_answer, fill_fields, slovdrim_fields, file, OF(b, file));
 }
 
-static slovdrim_links_answer proved_links(const struct batch *b)
+static slovdrim_check_answer proved_links(const struct batch *b)
 {
-    ANSWER(slovdrim_links_answer, fill_links, slovdrim_links, ALL(b));
+    ANSWER(slovdrim_check_answer, fill_links, slovdrim_check, ALL(b));
 }
 
-static slovdrim_links_answer proved_hinted(const struct batch *b, const uint32_t *order, size_t count)
+static slovdrim_check_answer proved_hinted(const struct batch *b, const uint32_t *order, size_t count)
 {
-    ANSWER(slovdrim_links_answer, fill_hinted, slovdrim_links_hinted, ALL(b), order, count);
+    ANSWER(slovdrim_check_answer, fill_hinted, slovdrim_check_hinted, ALL(b), order, count);
 }
 
-static void fail(const char *what, slovdrim_links_answer a)
+static void fail(const char *what, slovdrim_check_answer a)
 {
     fprintf(stderr, "bench: %s: the library answers %llu for file %llu, record %llu, field %llu, offset %llu\n", what, (unsigned long long)a.number,
             (unsigned long long)a.file, (unsigned long long)a.record, (unsigned long long)a.field, (unsigned long long)a.offset);
@@ -76,7 +76,7 @@ static void fail(const char *what, slovdrim_links_answer a)
 static struct plain_answer compare(const char *what, const struct batch *b, int small)
 {
     struct plain_answer p = plain_links(b->bytes, b->length);
-    slovdrim_links_answer a = proved_hinted(b, b->order, b->count);
+    slovdrim_check_answer a = proved_hinted(b, b->order, b->count);
     if (memcmp(&a, &p, sizeof a) != 0)
         fail(what, a);
     if (!small && b->count != 0)
@@ -201,7 +201,7 @@ static double time_scan(const struct batch *b)
     return now() - t;
 }
 
-/* The scan of all files and the fields of 2 to 13: what slovdrim_links does before its own stage. */
+/* The scan of all files and the fields of 2 to 13: what slovdrim_check does before its own stage. */
 static double time_fields(const struct batch *b)
 {
     double t = now();
@@ -319,7 +319,7 @@ static void bench_small(uint64_t seed, size_t length, int rounds)
 {
     static double fields[MOST_ROUNDS], whole[MOST_ROUNDS], hinted[MOST_ROUNDS];
     struct batch sorted, shuffled;
-    slovdrim_links_answer a;
+    slovdrim_check_answer a;
     int i;
     batch_make(&sorted, seed, length);
     batch_shuffle(&shuffled, &sorted, seed + 1);

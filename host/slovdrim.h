@@ -374,7 +374,7 @@ slovdrim_trip_stop_answer slovdrim_trip_stop(const uint8_t *verzejdf, size_t ver
 /*
  * The version of this interface: SLOVDRIM_VERSION of the header that the library was made with. It never refuses.
  */
-#define SLOVDRIM_VERSION 1
+#define SLOVDRIM_VERSION 2
 uint64_t slovdrim_version(void);
 
 /*

@@ -28,5 +28,5 @@ slovdrim-write-settled file f t d place =
     (settled-self (writeResult (writtenOf file f t (length d) place)))
     (settled-self (bufferOf file f t d place))
 
-pub slovdrim-version-settled : Settled (λ (r : ℕ). r ≡ 1)
-slovdrim-version-settled = settled-self 1
+pub slovdrim-version-settled : Settled (λ (r : ℕ). r ≡ 2)
+slovdrim-version-settled = settled-self 2

@@ -170,7 +170,7 @@ pub extern "C" fn slovdrim_write(
 // The version of this interface.
 #[no_mangle]
 pub extern "C" fn slovdrim_version() -> u64
-    ensures { λ r. ⌜ r ≡ 1 ⌝ }
+    ensures { λ r. ⌜ r ≡ 2 ⌝ }
 {
-    1
+    2
 }

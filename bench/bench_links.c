@@ -26,7 +26,7 @@ slovdrim_check_answer slovdrim_check(PAIRS);
 slovdrim_check_answer slovdrim_check_hinted(PAIRS, const uint32_t *order, size_t count);
 #endif
 
-enum { MOST_ROUNDS = 1001, SIZES = 3, ZASSPOJE = 8, PEVNYKOD = 3 };
+enum { MOST_ROUNDS = 1001, SIZES = 3, PEVNYKOD = 3, SPOJE = 6, ZASSPOJE = 8 };
 
 #define OF(batch, n) (batch)->bytes[n], (batch)->length[n]
 #define ALL(b) OF(b, 1), OF(b, 2), OF(b, 3), OF(b, 4), OF(b, 5), OF(b, 6), OF(b, 7), OF(b, 8), OF(b, 9), OF(b, 10), OF(b, 11), OF(b, 12), OF(b, 13)
@@ -92,16 +92,20 @@ static void damage_field(struct batch *b, unsigned field, const char *text, cons
 {
     size_t at = batch_last(b, ZASSPOJE), n = 0;
     uint8_t *record = b->bytes[ZASSPOJE] + at;
+    const char *old = (const char *)record;
     char made[256];
     unsigned f;
     for (f = 1; f <= 10; f++) {
-        const char *given = f == field ? text : f == field + 1 ? next : NULL;
+        const char *given = f == field ? text : f == field + 1 ? next : NULL, *end = old + 1;
+        while (end[0] != '"' || (end[1] != ',' && end[1] != ';'))
+            end++;
         if (given != NULL)
             n += (size_t)sprintf(made + n, "\"%s\",", given);
-        else if (f <= 4)
-            n += (size_t)sprintf(made + n, "\"%llu\",", (unsigned long long)batch_number(record, f));
-        else
+        else if (f >= 5 && f <= 7)
             n += (size_t)sprintf(made + n, "\"\",");
+        else
+            n += (size_t)sprintf(made + n, "%.*s\",", (int)(end - old), old);
+        old = end + 2;
     }
     memcpy(made + n - 1, ";\r\n", 3);
     memcpy(record, made, n + 2);
@@ -192,6 +196,27 @@ static double median(double *times, int n)
 
 static volatile uint64_t sink;
 
+/* The kilometre, 0, with which the first trip of Spoje sets out. With another digit there the check goes as far as keys, links and signs, and stops at this trip. */
+static uint8_t *first_kilometre(const struct batch *b)
+{
+    uint64_t line = batch_number(b->bytes[SPOJE], 1), trip = batch_number(b->bytes[SPOJE], 2);
+    uint8_t *at = b->bytes[ZASSPOJE], *end = at + b->length[ZASSPOJE];
+    while (at < end) {
+        uint8_t *text = at;
+        unsigned f;
+        for (f = 1; f < 8; f++) {
+            while (text[0] != '"' || text[1] != ',' || text[2] != '"')
+                text++;
+            text += 2;
+        }
+        if (batch_number(at, 1) == line && batch_number(at, 2) == trip && text[1] == '0' && text[2] == '"')
+            return text + 1;
+        at = (uint8_t *)memchr(at, '\n', (size_t)(end - at)) + 1;
+    }
+    fprintf(stderr, "bench: the first trip doesn't set out\n");
+    exit(1);
+}
+
 static double time_scan(const struct batch *b)
 {
     double t = now();
@@ -238,16 +263,29 @@ static void target(double ratio, double most)
     printf(" (at most %.1f: %s)", most, ratio <= most ? "met" : "missed");
 }
 
-/* What is timed: on the sorted batch and on the shuffled one. A stage is the whole without the scan and the fields, of the same moment. */
-enum { SCAN, FIELDS, WHOLE, STAGE, PLAIN, SHUFFLED_FIELDS, SHUFFLED_WHOLE, SHUFFLED_STAGE, SHUFFLED_PLAIN, TIMES };
+/* What is timed: on the sorted batch and on the shuffled one. LINKS is the check up to the first trip. The stage of keys, links and signs is that without
+   the scan and the fields, and the trips are the whole without it, of the same moment. */
+enum { SCAN, FIELDS, WHOLE, LINKS, STAGE, TRIPS, PLAIN, SHUFFLED_FIELDS, SHUFFLED_WHOLE, SHUFFLED_LINKS, SHUFFLED_STAGE, SHUFFLED_TRIPS, SHUFFLED_PLAIN, TIMES };
 
 struct run {
     size_t length;
     int repeats; /* in each round; a small batch is soon read */
     struct batch sorted, shuffled;
+    uint8_t *kilometre, *shuffled_kilometre;
     double *times[TIMES];
     int count;
 };
+
+/* With another kilometre the first trip is the one that is refused. */
+static void first_trip_refused(const struct batch *b, uint8_t *kilometre)
+{
+    slovdrim_check_answer a;
+    *kilometre = '1';
+    a = proved_links(b);
+    *kilometre = '0';
+    if (a.number != 11 || a.file != SPOJE || a.record != 1)
+        fail("the first trip's kilometre", a);
+}
 
 static void open_run(struct run *run, uint64_t seed, int rounds)
 {
@@ -260,6 +298,9 @@ static void open_run(struct run *run, uint64_t seed, int rounds)
     }
     compare_damaged(&run->sorted, damage, 0);
     compare_damaged(&run->shuffled, damage, 0);
+    run->kilometre = first_kilometre(&run->sorted);
+    run->shuffled_kilometre = first_kilometre(&run->shuffled);
+    first_trip_refused(&run->sorted, run->kilometre);
     run->count = 0;
     for (i = 0; i < TIMES; i++) {
         run->times[i] = malloc((size_t)(rounds * run->repeats) * sizeof(double));
@@ -277,18 +318,26 @@ static void round_of(struct run *run)
         t[SCAN][n] = time_scan(&run->sorted);
         t[FIELDS][n] = time_fields(&run->sorted);
         t[WHOLE][n] = time_links(&run->sorted);
+        *run->kilometre = '1';
+        t[LINKS][n] = time_links(&run->sorted);
+        *run->kilometre = '0';
         t[PLAIN][n] = time_plain(&run->sorted);
         t[SHUFFLED_FIELDS][n] = time_fields(&run->shuffled);
         t[SHUFFLED_WHOLE][n] = time_hinted(&run->shuffled);
+        *run->shuffled_kilometre = '1';
+        t[SHUFFLED_LINKS][n] = time_hinted(&run->shuffled);
+        *run->shuffled_kilometre = '0';
         t[SHUFFLED_PLAIN][n] = time_plain(&run->shuffled);
-        t[STAGE][n] = t[WHOLE][n] - t[FIELDS][n];
-        t[SHUFFLED_STAGE][n] = t[SHUFFLED_WHOLE][n] - t[SHUFFLED_FIELDS][n];
+        t[STAGE][n] = t[LINKS][n] - t[FIELDS][n];
+        t[TRIPS][n] = t[WHOLE][n] - t[LINKS][n];
+        t[SHUFFLED_STAGE][n] = t[SHUFFLED_LINKS][n] - t[SHUFFLED_FIELDS][n];
+        t[SHUFFLED_TRIPS][n] = t[SHUFFLED_WHOLE][n] - t[SHUFFLED_LINKS][n];
     }
 }
 
-/* Milliseconds for each byte: of the stage, and of the plain C on rising keys. */
+/* Milliseconds for each byte: of the stage, of the trips, and of the plain C on rising keys. */
 struct speed {
-    double sorted, shuffled, plain;
+    double sorted, shuffled, plain, trips, shuffled_trips;
 };
 
 static struct speed close_run(struct run *run)
@@ -309,9 +358,11 @@ static struct speed close_run(struct run *run)
     target(m[SHUFFLED_STAGE] / m[STAGE], 3);
     printf("\n                      plain C %6.2f ms, %.2f ns/byte; stage %.2f times the plain C\n", m[SHUFFLED_PLAIN], m[SHUFFLED_PLAIN] * 1e6 / bytes,
            m[SHUFFLED_STAGE] / m[SHUFFLED_PLAIN]);
+    printf("  trips: rising keys %8.2f ms, %5.2f ns/byte, %.2f times the bare scan; shuffled, with hint %8.2f ms, %5.2f ns/byte\n", m[TRIPS], m[TRIPS] * 1e6 / bytes,
+           m[TRIPS] / m[SCAN], m[SHUFFLED_TRIPS], m[SHUFFLED_TRIPS] * 1e6 / bytes);
     batch_free(&run->sorted);
     batch_free(&run->shuffled);
-    return (struct speed){m[STAGE] / bytes, m[SHUFFLED_STAGE] / bytes, m[PLAIN] / bytes};
+    return (struct speed){m[STAGE] / bytes, m[SHUFFLED_STAGE] / bytes, m[PLAIN] / bytes, m[TRIPS] / bytes, m[SHUFFLED_TRIPS] / bytes};
 }
 
 /* A small batch in no order, without a hint or with a wrong one: the answer is the same, and it comes. */
@@ -365,7 +416,7 @@ int main(int argc, char **argv)
     for (round = 0; round < rounds; round++)
         for (i = 0; i < SIZES; i++)
             round_of(&runs[i]);
-    printf("keys, links and signs, medians of %d rounds\n", rounds);
+    printf("keys, links and signs (the stage), and trips, medians of %d rounds\n", rounds);
     for (i = 0; i < SIZES; i++)
         speed[i] = close_run(&runs[i]);
     growth = speed[SIZES - 1].sorted / speed[0].sorted;
@@ -374,7 +425,8 @@ int main(int argc, char **argv)
     growth = speed[SIZES - 1].shuffled / speed[0].shuffled;
     printf(", shuffled with hint by %.2f", growth);
     target(growth, 1.5);
-    printf(", the plain C by %.2f\n", speed[SIZES - 1].plain / speed[0].plain);
+    printf(", the plain C by %.2f; trips: rising keys by %.2f, shuffled with hint by %.2f\n", speed[SIZES - 1].plain / speed[0].plain,
+           speed[SIZES - 1].trips / speed[0].trips, speed[SIZES - 1].shuffled_trips / speed[0].shuffled_trips);
     bench_small(seed, 20000, rounds);
     bench_small(seed, 50000, rounds);
     return 0;

@@ -1,0 +1,32 @@
+-- An accepted batch's files can be asked for its trips, once the ways to their records were made out: a caller checks once, and then asks as often
+-- as it likes.
+use mathlib.Core.List.{List}
+use Prim.Native.Nat.{ℕ, _≤_}
+use native.Mathlib.Omega.{arith}
+use lib.ListN.{length}
+use Rattle.lookup.specs.Ways.{Ways}
+use Rattle.thirteen.specs.Batch.{Batch, fileIn}
+use Rattle.coded.specs.Ready.{Ready}
+use Rattle.trips.specs.Standing.{Standing}
+use Rattle.trips.proofs.ReadyLaws.{ready-file}
+
+-- Pevnykod, Linky, Spoje, Zaslinky, Zasspoje and Caskody
+pub record TripsReady (b : Batch) (order ways : List ℕ) : Type 0 where
+  pub codes : Ready 3 (fileIn b 3) order ways
+  pub lines : Ready 5 (fileIn b 5) order ways
+  pub trips : Ready 6 (fileIn b 6) order ways
+  pub lineStops : Ready 7 (fileIn b 7) order ways
+  pub tripStops : Ready 8 (fileIn b 8) order ways
+  pub timeCodes : Ready 10 (fileIn b 10) order ways
+
+pub standing-ready : (b : Batch) (order ways : List ℕ) → Standing b → Ways b order ways → 33 ≤ length ways → TripsReady b order ways
+standing-ready b order ways s w h =
+    let l = s .linking in
+    record {
+      codes = ready-file b 3 order ways (omega arith, omega arith) (s .sound) (l .codes-key) w h;
+      lines = ready-file b 5 order ways (omega arith, omega arith) (s .sound) (l .lines-key) w h;
+      trips = ready-file b 6 order ways (omega arith, omega arith) (s .sound) (l .trips-key) w h;
+      lineStops = ready-file b 7 order ways (omega arith, omega arith) (s .sound) (l .line-stops-key) w h;
+      tripStops = ready-file b 8 order ways (omega arith, omega arith) (s .sound) (l .trip-stops-key) w h;
+      timeCodes = ready-file b 10 order ways (omega arith, omega arith) (s .sound) (l .time-codes-key) w h;
+    }

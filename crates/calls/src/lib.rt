@@ -110,8 +110,8 @@ fn is_last(v: course::Visit, more: bool) -> bool
     false
 }
 
-// The stop whose record starts at a place of Zasspoje.
-fn halt_at(
+// inner: the stop whose record starts at a place of Zasspoje
+pub fn halt_at(
     at: usize,
     line: u64,
     trip: u64,

@@ -99,7 +99,7 @@ const DAYS_MET: &[(&str, u64, &str)] = &[
     ("slovdrim_fits", 12, ""),
 ];
 
-/// The sweeps: file 1 to 11 bytes, file 3 to 16; to 14 where the driver runs under an emulator, which is told by a command of more than one word.
+/// The sweeps: file 1 to 11 bytes, file 3 to 16.
 const SWEEPS: [(u64, usize, usize, usize); 2] = [(1, 11, 11, 2), (3, 16, 12, 6)];
 
 fn step(report: &mut Report, command: &[String], name: &str, ask: impl FnOnce(&mut Link)) {
@@ -129,8 +129,7 @@ fn compare_files(command: &[String]) -> Report {
         println!("the sweeps are left out, since there are differences already");
         return report;
     }
-    for (file, most, stretches_to, parts) in SWEEPS {
-        let longest = if command.len() > 1 { most.min(14) } else { most };
+    for (file, longest, stretches_to, parts) in SWEEPS {
         let name = format!("every beginning and one byte more, file {} to {} bytes", file, longest);
         step(&mut report, command, &name, |l| sweep::sweep(l, file, longest, stretches_to, parts));
     }

@@ -1,15 +1,15 @@
 -- A batch in which none of the refusals 1 to 11 is found keeps every rule behind them: no length is passed, each file is legal, VerzeJDF is one
 -- record `1.8`, each field is of its kind and each record keeps its rules, keys are distinct, links are met and signs are permitted, and nothing is
 -- wrong with any trip. So it stands, and its trips may be asked for.
-use mathlib.Core.Path.{_≡_, refl, sym, ap, _∙_}
-use mathlib.Core.Bool.{true, false}
+use mathlib.Core.Path.{_≡_, refl, ap}
+use mathlib.Core.Bool.{true}
 use mathlib.Core.List.{List, [], _∷_}
 use Prim.Native.Nat.{ℕ, zero, suc, _+_, _-_, _≤_, _<_}
 use native.Mathlib.Omega.{arith}
 use lib.Dec.{eqb, leb}
 use lib.ListN.{length, getD}
 use borrow.Author.Tests.{eqb-false, leb-true}
-use Rattle.laws.specs.Tests.{either, never, clash}
+use Rattle.laws.specs.Tests.{either}
 use Rattle.laws.specs.Numbered.{Numbered, answered}
 use Rattle.file.specs.Files.{longest}
 use Rattle.file.specs.Format.{Fields}
@@ -23,10 +23,12 @@ use Rattle.trips.specs.Standing.{Standing}
 use Rattle.link.proofs.LinkingLaws.{linked}
 use Rattle.link.proofs.SignedLaws.{signed}
 use Rattle.amiss.specs.Sound.{SoundFiles}
-use Rattle.batch.specs.Legal.{LegalFiles}
-use Rattle.batch.specs.Order.{lengthFault, bytesFault, isVersion, versionFault, stages, firstFault, faultOf}
-use Rattle.batch.proofs.FileLaws.{legal-files, sound-files}
-use Rattle.batch.proofs.OrderLaws.{first-each}
+use Rattle.alone.specs.Legal.{LegalFiles}
+use Rattle.alone.specs.Order.{lengthFault, isVersion, versionFault}
+use Rattle.batch.specs.Order.{stages, faultOf}
+use Rattle.alone.proofs.FileLaws.{legal-files}
+use Rattle.batch.proofs.SoundLaws.{sound-files}
+use Rattle.alone.proofs.OrderLaws.{first-each}
 
 -- what such a batch keeps
 pub record Kept (b : Batch) : Type 0 where

@@ -1,4 +1,3 @@
-pub mod OrderLaws
-pub mod FileLaws
+pub mod SoundLaws
 pub mod AcceptedLaws
 pub mod RecordsLaws

@@ -23,11 +23,12 @@ use Rattle.trip.specs.Stage.{tripsFault}
 use Rattle.trips.specs.Plain.{plainFrom}
 use Rattle.trips.proofs.PlainLaws.{plain-trips}
 use Rattle.trips.proofs.ReadyLaws.{ready-file}
-use Rattle.batch.specs.Answers.{numberedFault}
-use Rattle.batch.specs.Order.{stages, firstFault}
-use Rattle.batch.specs.declared.Fault.{Fault}
+use Rattle.fault.specs.Answers.{numberedFault}
+use Rattle.alone.specs.Order.{firstFault}
+use Rattle.batch.specs.Order.{stages}
+use Rattle.fault.specs.declared.Fault.{Fault}
 use Rattle.batch.proofs.AcceptedLaws.{no-links}
-use Rattle.batch.proofs.OrderLaws.{is-some, is-zero, first-one}
+use Rattle.alone.proofs.OrderLaws.{is-some, is-zero, first-one}
 
 module _ (b : Batch) (f : Fault) (e : numberedFault f ≡ linksFault b) (t : Bool) (d : t ≡ eqb (numberedFault f .number) 0) where
   -- 7, 8 or 9 is found

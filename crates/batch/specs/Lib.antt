@@ -1,4 +1,3 @@
 pub mod Order
-pub mod Legal
-pub mod Answers
+pub mod Verdicts
 pub mod OneResult

@@ -1,67 +1,25 @@
--- `check` is promised by an equation with document 01's number and place, and so allows one result only: each case of its answer
--- can be told back from what `numberedFault` gives for it.
-use mathlib.Core.Path.{_≡_, refl, sym, subst}
-use mathlib.Core.Bool.{Bool, true, false}
-use Prim.Native.Nat.{ℕ}
-use lib.Dec.{eqb, leb}
-use borrow.Author.Tests.{ne-eqb}
+-- `numberedVerdict` tells all verdicts apart, so that the check's promise allows one result only: an accepted batch has four values, and a fault has none.
+use mathlib.Core.Path.{_≡_, refl}
+use lib.Dec.{eqb}
+use lib.ListN.{length, getD}
 use Rattle.laws.specs.Numbered.{Numbered}
-use Rattle.laws.specs.Settled.{Settled, OneToOne, told-back, settled}
-use Rattle.laws.specs.Tests.{pick, both, clash}
-use Rattle.file.specs.Answers.{numbered}
-use Rattle.file.specs.OneResult.{refusalOf, refusal-told, no-answer}
-use Rattle.file.specs.declared.Refusal.{Refusal}
-use Rattle.thirteen.specs.Batch.{Batch}
-use Rattle.batch.specs.declared.Fault.{Fault}
-use Rattle.batch.specs.Answers.{numberedFault}
-use Rattle.batch.specs.Order.{faultOf}
+use Rattle.laws.specs.Settled.{OneToOne, told-back}
+use Rattle.laws.specs.Tests.{pick}
+use Rattle.fault.specs.OneResult.{caseOf, case-told, fault-no-values}
+use Rattle.batch.specs.declared.Verdict.{Verdict}
+use Rattle.batch.specs.Verdicts.{numberedVerdict}
 
--- a file's own refusals are none of 4 to 11
-abbrev fourToEleven : ℕ → Bool
-fourToEleven n = both (leb 4 n) (leb n 11)
+-- the verdict of this number, place and values
+verdictBack : Numbered → Verdict
+verdictBack a =
+    pick (eqb (length (a .values)) 0)
+    (Verdict.Refused (caseOf a))
+    (Verdict.Accepted (record { stops = getD (a .values) 0 0; lines = getD (a .values) 1 0; trips = getD (a .values) 2 0; trip_stops = getD (a .values) 3 0 }))
 
-outside : (r : Refusal) → fourToEleven (numbered r .number) ≡ false
-unfolding numbered
-outside (Refusal.TooLong file) = refl
-outside (Refusal.Unfit file at) = refl
-outside (Refusal.CutShort file at) = refl
-outside Refusal.NoSuch = refl
-outside Refusal.NotPermitted = refl
-outside Refusal.NoRoom = refl
+verdict-told : (v : Verdict) → verdictBack (numberedVerdict v) ≡ v
+unfolding numberedVerdict verdictBack
+verdict-told (Verdict.Accepted c) = refl
+verdict-told (Verdict.Refused f) = rw (fault-no-values f, case-told f)
 
-not-this : (r : Refusal) (n : ℕ) → fourToEleven n ≡ true → eqb (numbered r .number) n ≡ false
-not-this r n h = ne-eqb (numbered r .number) n (λ e. clash (subst (λ (m : ℕ). fourToEleven m ≡ true) (sym e) h) (outside r))
-
--- the case of this number and place
-caseOf : Numbered → Fault
-caseOf a =
-    pick (eqb (a .number) 0) Fault.None
-    (pick (eqb (a .number) 4) (Fault.Version (a .inRecord) (a .inField))
-    (pick (eqb (a .number) 5) (Fault.Unkind (a .inFile) (a .inRecord) (a .inField))
-    (pick (eqb (a .number) 6) (Fault.Broken (a .inFile) (a .inRecord))
-    (pick (eqb (a .number) 7) (Fault.Used (a .inFile) (a .inRecord))
-    (pick (eqb (a .number) 8) (Fault.Dangling (a .inFile) (a .inRecord) (a .inField))
-    (pick (eqb (a .number) 9) (Fault.Misplaced (a .inFile) (a .inRecord) (a .inField))
-    (pick (eqb (a .number) 10) (Fault.Days (a .inRecord))
-    (pick (eqb (a .number) 11) (Fault.Stops (a .inRecord))
-    (Fault.File (refusalOf a))))))))))
-
-case-told : (f : Fault) → caseOf (numberedFault f) ≡ f
-unfolding numberedFault caseOf
-case-told Fault.None = refl
-case-told (Fault.File r) =
-    rw (no-answer r, not-this r 4 refl, not-this r 5 refl, not-this r 6 refl, not-this r 7 refl, not-this r 8 refl, not-this r 9 refl, not-this r 10 refl, not-this r 11 refl, refusal-told r)
-case-told (Fault.Version k f) = refl
-case-told (Fault.Unkind file k f) = refl
-case-told (Fault.Broken file k) = refl
-case-told (Fault.Used file k) = refl
-case-told (Fault.Dangling file k f) = refl
-case-told (Fault.Misplaced file k f) = refl
-case-told (Fault.Days k) = refl
-case-told (Fault.Stops k) = refl
-
-pub fault-one : OneToOne numberedFault
-fault-one = told-back numberedFault caseOf case-told
-
-pub check-settled : (b : Batch) → Settled (λ (r : Fault). numberedFault r ≡ faultOf b)
-check-settled b = settled numberedFault fault-one (faultOf b)
+pub verdict-one : OneToOne numberedVerdict
+verdict-one = told-back numberedVerdict verdictBack verdict-told

@@ -48,11 +48,11 @@ use Rattle.calling.specs.Calling.{travelled, goesUp}
 use Rattle.halts.specs.Halts.{Nth, plainSigns}
 use Rattle.halts.proofs.HaltLaws.{walk-done}
 use Rattle.halts.proofs.ViewOfHalts.{plain-signs, plain-stops}
-use Rattle.batch.specs.Answers.{numberedFault}
+use Rattle.fault.specs.Answers.{numberedFault}
 use Rattle.batch.specs.Order.{faultOf}
-use Rattle.batch.specs.declared.Fault.{Fault}
+use Rattle.fault.specs.declared.Fault.{Fault}
 use Rattle.batch.proofs.AcceptedLaws.{standing}
-use Rattle.batch.proofs.OrderLaws.{none-zero, is-zero}
+use Rattle.alone.proofs.OrderLaws.{none-zero, is-zero}
 use Rattle.calls.specs.Answers.{stopAnswer}
 use Rattle.calls.specs.Halt.{stopAt, minuteBefore, arrivalOf, departureOf, isLast, signSum, haltOf}
 use Rattle.calls.specs.Plain.{haltNumbers, plainHalt, plainNth, plainStop}

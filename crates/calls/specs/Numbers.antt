@@ -1,6 +1,6 @@
 -- Document 01's number and values for each case of the answer.
 use Rattle.laws.specs.Numbered.{Numbered, answered, refused}
-use Rattle.batch.specs.Answers.{numberedFault}
+use Rattle.fault.specs.Answers.{numberedFault}
 use Rattle.calls.specs.Plain.{haltNumbers}
 use Rattle.calls.specs.declared.Stop.{Stop}
 

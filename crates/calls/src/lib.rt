@@ -1,8 +1,8 @@
 // A trip's nth stop in travel order: its tariff number, its stop, its times, its signs. The call takes any bytes and any numbers, and checks the batch
 // first.
-use batch::Fault;
 use batch::check_with;
-use batch::is_none;
+use fault::Fault;
+use fault::is_none;
 use field::value_of;
 use file::classes;
 use halts::count_stops;

@@ -36,9 +36,9 @@ use Rattle.coded.specs.Ready.{Ready}
 use Rattle.trips.specs.Plain.{plainRuns}
 use Rattle.trips.proofs.PlainLaws.{plain-runs}
 use Rattle.trips.proofs.ReadyLaws.{ready-file}
-use Rattle.batch.specs.Answers.{numberedFault}
+use Rattle.fault.specs.Answers.{numberedFault}
 use Rattle.batch.specs.Order.{faultOf}
-use Rattle.batch.specs.declared.Fault.{Fault}
+use Rattle.fault.specs.declared.Fault.{Fault}
 use Rattle.batch.proofs.AcceptedLaws.{kept, standing}
 use Rattle.counter.specs.Answers.{hasTrip, runsAnswer}
 use Rattle.counter.specs.Plain.{LineMet, tripRecord, plainAnswer}

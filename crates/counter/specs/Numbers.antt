@@ -2,7 +2,7 @@
 use mathlib.Core.List.{[], _∷_}
 use Rattle.laws.specs.Numbered.{Numbered, answered, refused}
 use Rattle.calendar.specs.Answers.{bit}
-use Rattle.batch.specs.Answers.{numberedFault}
+use Rattle.fault.specs.Answers.{numberedFault}
 use Rattle.counter.specs.declared.Running.{Running}
 
 unfoldable pub numberedRuns : Running → Numbered

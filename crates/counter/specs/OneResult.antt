@@ -11,9 +11,9 @@ use Rattle.laws.specs.Tests.{pick}
 use Rattle.file.specs.Answers.{numbered}
 use Rattle.file.specs.declared.Refusal.{Refusal}
 use Rattle.thirteen.specs.Batch.{Batch}
-use Rattle.batch.specs.Answers.{numberedFault}
-use Rattle.batch.specs.OneResult.{fault-one}
-use Rattle.batch.specs.declared.Fault.{Fault}
+use Rattle.fault.specs.Answers.{numberedFault}
+use Rattle.fault.specs.OneResult.{fault-one}
+use Rattle.fault.specs.declared.Fault.{Fault}
 use Rattle.counter.specs.declared.Running.{Running}
 use Rattle.counter.specs.Answers.{runsAnswer}
 use Rattle.counter.specs.Numbers.{numberedRuns}

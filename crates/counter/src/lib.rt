@@ -1,7 +1,7 @@
 // Questions about a batch's trips. Each takes any bytes and any numbers, and checks the batch first.
-use batch::Fault;
 use batch::check_with;
-use batch::is_none;
+use fault::Fault;
+use fault::is_none;
 use file::classes;
 use trail::by_two;
 use trips::runs::trip_runs;

@@ -6,8 +6,8 @@ use lib.ListN.{getD}
 use Rattle.laws.specs.Numbered.{Numbered}
 use Rattle.file.specs.Answers.{numbered}
 use Rattle.file.specs.declared.Refusal.{Refusal}
-use Rattle.batch.specs.Answers.{numberedFault}
-use Rattle.batch.specs.declared.Fault.{Fault}
+use Rattle.fault.specs.Answers.{numberedFault}
+use Rattle.fault.specs.declared.Fault.{Fault}
 use Rattle.slovdrim.specs.Checks.{checkResult}
 use Rattle.slovdrim.specs.Questions.{runsResult, stopResult, plainStopResult}
 use Rattle.slovdrim.specs.declared.batches.CheckResult.{CheckResult}

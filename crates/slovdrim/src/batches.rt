@@ -1,12 +1,12 @@
 // The check of a batch for C: document 01's refusals 1 to 11, over thirteen files in their order. Bytes and the list are lent for the call
 // alone; nothing is written.
 use super::files::place_of;
-use batch::Fault;
 use batch::check;
+use fault::Fault;
 ghost use mathlib.Core.Path.{_≡_};
 ghost use Rattle.laws.specs.Numbered.{refusedIn};
 ghost use Rattle.thirteen.specs.Batch.{thirteen};
-ghost use Rattle.batch.specs.Answers.{numberedFault};
+ghost use Rattle.fault.specs.Answers.{numberedFault};
 ghost use Rattle.batch.specs.Order.{faultOf};
 ghost use Rattle.slovdrim.specs.Checks.{checkResult};
 

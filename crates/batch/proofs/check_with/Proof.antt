@@ -10,8 +10,9 @@ use Rattle.links.proofs.KeyedLaws.{sound-keys}
 use Rattle.amiss.specs.Sound.{SoundFiles}
 use Rattle.thirteen.specs.Batch.{Batch, thirteen}
 use Rattle.batch.specs.Order.{stages, faultOf}
-use Rattle.batch.proofs.FileLaws.{legal-files, sound-files}
-use Rattle.batch.proofs.OrderLaws.{is-some, stages-stop, stages-past, stages-zero}
+use Rattle.alone.proofs.FileLaws.{legal-files}
+use Rattle.batch.proofs.SoundLaws.{sound-files}
+use Rattle.alone.proofs.OrderLaws.{is-some, stages-stop, stages-past, stages-zero}
 use Rattle.batch.proofs.check_with.Statement.{statement}
 use Rattle.batch.proofs.check_with.Tie as tie
 

@@ -1,7 +1,7 @@
 -- `batch::linked_fault` meets its contract, case by case.
 use borrow.Author.Needs.{needs}
 use Rattle.link.specs.Stage.{numberedLinked}
-use Rattle.batch.specs.Answers.{numberedFault}
+use Rattle.fault.specs.Answers.{numberedFault}
 use Rattle.batch.proofs.linked_fault.Statement.{statement}
 use Rattle.batch.proofs.linked_fault.Tie as tie
 

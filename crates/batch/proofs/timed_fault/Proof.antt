@@ -1,7 +1,7 @@
 -- `batch::timed_fault` meets its contract, case by case.
 use borrow.Author.Needs.{needs}
 use Rattle.trips.specs.Answers.{numberedTimed}
-use Rattle.batch.specs.Answers.{numberedFault}
+use Rattle.fault.specs.Answers.{numberedFault}
 use Rattle.batch.proofs.timed_fault.Statement.{statement}
 use Rattle.batch.proofs.timed_fault.Tie as tie
 

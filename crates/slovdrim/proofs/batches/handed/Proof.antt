@@ -1,7 +1,7 @@
 -- `batches::handed` hands on each case of a fault.
 use mathlib.Core.Path.{ap, _∙_}
 use borrow.Author.Needs.{needs}
-use Rattle.batch.specs.Answers.{numberedFault}
+use Rattle.fault.specs.Answers.{numberedFault}
 use Rattle.slovdrim.proofs.FileResults.{checkAt, refused-check}
 use Rattle.slovdrim.proofs.batches.handed.Statement.{statement}
 use Rattle.slovdrim.proofs.batches.handed.Tie as tie

@@ -1,0 +1,229 @@
+// What each file of a batch is by itself, in document 01's order: 1 over all files, 2 and 3 over all files, 4, then 5 and 6.
+use fault::Fault;
+use fault::is_none;
+use fields::Checked;
+use fields::first_fault;
+use file::Outcome;
+use file::Refusal;
+use file::classes;
+use file::fields_of;
+use reader::read;
+use thirteen::file_of;
+use walk::cut;
+use walk::part;
+ghost use mathlib.Core.Path.{_≡_};
+ghost use lib.ListN.{take};
+ghost use Rattle.file.specs.Records.{recordsIn};
+ghost use Rattle.field.specs.Stage.{fieldFault};
+ghost use Rattle.fields.specs.Check.{numberedChecked};
+ghost use Rattle.thirteen.specs.Batch.{thirteen, recordsOf, overFiles};
+ghost use Rattle.walk.specs.Walk.{LegalFrom};
+ghost use Rattle.fault.specs.Answers.{numberedFault};
+ghost use Rattle.alone.specs.Legal.{LegalFiles};
+ghost use Rattle.alone.specs.Order.{lengthFault, bytesFault, isVersion, outcomeFault, versionFault, firstFault, fileStages};
+
+// The greatest length of a file.
+const LONGEST: usize = 16_777_215;
+
+// 1: the first file that is too long.
+fn first_long<'a>(
+    f1: &'a [u8],
+    f2: &'a [u8],
+    f3: &'a [u8],
+    f4: &'a [u8],
+    f5: &'a [u8],
+    f6: &'a [u8],
+    f7: &'a [u8],
+    f8: &'a [u8],
+    f9: &'a [u8],
+    f10: &'a [u8],
+    f11: &'a [u8],
+    f12: &'a [u8],
+    f13: &'a [u8],
+) -> Fault
+    ensures { λ r. ⌜ numberedFault r ≡ overFiles (lengthFault (thirteen (now (f1 .entry)) (now (f2 .entry)) (now (f3 .entry)) (now (f4 .entry)) (now (f5 .entry)) (now (f6 .entry)) (now (f7 .entry)) (now (f8 .entry)) (now (f9 .entry)) (now (f10 .entry)) (now (f11 .entry)) (now (f12 .entry)) (now (f13 .entry)))) 1 13 ⌝ }
+{
+    let mut file: u64 = 1;
+    while file < 14 {
+        let s = file_of(file, f1, f2, f3, f4, f5, f6, f7, f8, f9, f10, f11, f12, f13);
+        if s.len() > LONGEST {
+            return Fault::File(Refusal::TooLong(file));
+        }
+        file += 1;
+    }
+    Fault::None
+}
+
+// What the reading of a file came to, as a fault.
+fn outcome_fault(file: u64, o: Outcome) -> Fault
+    ensures { λ r. ⌜ numberedFault r ≡ outcomeFault file o ⌝ }
+{
+    match o {
+        Outcome::Whole(_) => Fault::None,
+        Outcome::Unfit(at) => Fault::File(Refusal::Unfit(file, at as u64)),
+        Outcome::CutShort(at) => Fault::File(Refusal::CutShort(file, at as u64)),
+    }
+}
+
+// 2 and 3: the first file that isn't legal.
+fn first_unread<'a>(
+    f1: &'a [u8],
+    f2: &'a [u8],
+    f3: &'a [u8],
+    f4: &'a [u8],
+    f5: &'a [u8],
+    f6: &'a [u8],
+    f7: &'a [u8],
+    f8: &'a [u8],
+    f9: &'a [u8],
+    f10: &'a [u8],
+    f11: &'a [u8],
+    f12: &'a [u8],
+    f13: &'a [u8],
+) -> Fault
+    ensures { λ r. ⌜ numberedFault r ≡ overFiles (bytesFault (thirteen (now (f1 .entry)) (now (f2 .entry)) (now (f3 .entry)) (now (f4 .entry)) (now (f5 .entry)) (now (f6 .entry)) (now (f7 .entry)) (now (f8 .entry)) (now (f9 .entry)) (now (f10 .entry)) (now (f11 .entry)) (now (f12 .entry)) (now (f13 .entry)))) 1 13 ⌝ }
+{
+    let mut file: u64 = 1;
+    while file < 14 {
+        let s = file_of(file, f1, f2, f3, f4, f5, f6, f7, f8, f9, f10, f11, f12, f13);
+        let fault = outcome_fault(file, read(s, fields_of(file)));
+        if !is_none(fault) {
+            return fault;
+        }
+        file += 1;
+    }
+    Fault::None
+}
+
+// The text `1.8`.
+fn is_version(t: &[u8]) -> bool
+    ensures { λ r. ⌜ r ≡ isVersion (now (t .entry)) ⌝ }
+{
+    if t.len() != 3 {
+        return false;
+    }
+    if t[0] != b'1' {
+        return false;
+    }
+    if t[1] != b'.' {
+        return false;
+    }
+    t[2] == b'8'
+}
+
+// 4: VerzeJDF, legal, is one record `1.8`.
+fn version_fault(s: &[u8]) -> Fault
+    requires { ⌜ LegalFrom 1 (now s) 0 ⌝ }
+    ensures { λ r. ⌜ numberedFault r ≡ versionFault (recordsIn 1 (now (s .entry))) ⌝ }
+{
+    if s.len() == 0 {
+        return Fault::Version(0, 0);
+    }
+    let class = classes();
+    let mut places: [usize; 14] = [0; 14];
+    let next = cut(s, 0, 1, &class, &mut places);
+    if next < s.len() {
+        return Fault::Version(0, 0);
+    }
+    if is_version(part(s, &places, 0)) {
+        return Fault::None;
+    }
+    Fault::Version(1, 1)
+}
+
+// The first fault inside one file, as a fault of the batch.
+fn checked_fault(c: Checked) -> Fault
+    ensures { λ r. ⌜ numberedFault r ≡ numberedChecked c ⌝ }
+{
+    match c {
+        Checked::Sound => Fault::None,
+        Checked::Refused(why) => Fault::File(why),
+        Checked::Unkind(file, k, f) => Fault::Unkind(file, k, f),
+        Checked::Broken(file, k) => Fault::Broken(file, k),
+    }
+}
+
+// 5 and 6: the first fault inside one of the files 2-13.
+fn first_unsound<'a>(
+    f1: &'a [u8],
+    f2: &'a [u8],
+    f3: &'a [u8],
+    f4: &'a [u8],
+    f5: &'a [u8],
+    f6: &'a [u8],
+    f7: &'a [u8],
+    f8: &'a [u8],
+    f9: &'a [u8],
+    f10: &'a [u8],
+    f11: &'a [u8],
+    f12: &'a [u8],
+    f13: &'a [u8],
+) -> Fault
+    requires { ⌜ LegalFiles (thirteen (now f1) (now f2) (now f3) (now f4) (now f5) (now f6) (now f7) (now f8) (now f9) (now f10) (now f11) (now f12) (now f13)) ⌝ }
+    ensures { λ r. ⌜ numberedFault r ≡ overFiles (λ file. fieldFault file (recordsOf (thirteen (now (f1 .entry)) (now (f2 .entry)) (now (f3 .entry)) (now (f4 .entry)) (now (f5 .entry)) (now (f6 .entry)) (now (f7 .entry)) (now (f8 .entry)) (now (f9 .entry)) (now (f10 .entry)) (now (f11 .entry)) (now (f12 .entry)) (now (f13 .entry))) file)) 2 12 ⌝ }
+{
+    let mut file: u64 = 2;
+    while file < 14 {
+        let s = file_of(file, f1, f2, f3, f4, f5, f6, f7, f8, f9, f10, f11, f12, f13);
+        let fault = checked_fault(first_fault(file, s, fields_of(file)));
+        if !is_none(fault) {
+            return fault;
+        }
+        file += 1;
+    }
+    Fault::None
+}
+
+// 1, 2 and 3.
+fn check_bytes<'a>(
+    f1: &'a [u8],
+    f2: &'a [u8],
+    f3: &'a [u8],
+    f4: &'a [u8],
+    f5: &'a [u8],
+    f6: &'a [u8],
+    f7: &'a [u8],
+    f8: &'a [u8],
+    f9: &'a [u8],
+    f10: &'a [u8],
+    f11: &'a [u8],
+    f12: &'a [u8],
+    f13: &'a [u8],
+) -> Fault
+    ensures { λ r. ⌜ numberedFault r ≡ firstFault (take 2 (fileStages (thirteen (now (f1 .entry)) (now (f2 .entry)) (now (f3 .entry)) (now (f4 .entry)) (now (f5 .entry)) (now (f6 .entry)) (now (f7 .entry)) (now (f8 .entry)) (now (f9 .entry)) (now (f10 .entry)) (now (f11 .entry)) (now (f12 .entry)) (now (f13 .entry))))) ⌝ }
+{
+    let fault = first_long(f1, f2, f3, f4, f5, f6, f7, f8, f9, f10, f11, f12, f13);
+    if !is_none(fault) {
+        return fault;
+    }
+    first_unread(f1, f2, f3, f4, f5, f6, f7, f8, f9, f10, f11, f12, f13)
+}
+
+// inner: 1 to 6
+pub fn check_files<'a>(
+    f1: &'a [u8],
+    f2: &'a [u8],
+    f3: &'a [u8],
+    f4: &'a [u8],
+    f5: &'a [u8],
+    f6: &'a [u8],
+    f7: &'a [u8],
+    f8: &'a [u8],
+    f9: &'a [u8],
+    f10: &'a [u8],
+    f11: &'a [u8],
+    f12: &'a [u8],
+    f13: &'a [u8],
+) -> Fault
+    ensures { λ r. ⌜ numberedFault r ≡ firstFault (fileStages (thirteen (now (f1 .entry)) (now (f2 .entry)) (now (f3 .entry)) (now (f4 .entry)) (now (f5 .entry)) (now (f6 .entry)) (now (f7 .entry)) (now (f8 .entry)) (now (f9 .entry)) (now (f10 .entry)) (now (f11 .entry)) (now (f12 .entry)) (now (f13 .entry)))) ⌝ }
+{
+    let first = check_bytes(f1, f2, f3, f4, f5, f6, f7, f8, f9, f10, f11, f12, f13);
+    if !is_none(first) {
+        return first;
+    }
+    let second = version_fault(f1);
+    if !is_none(second) {
+        return second;
+    }
+    first_unsound(f1, f2, f3, f4, f5, f6, f7, f8, f9, f10, f11, f12, f13)
+}

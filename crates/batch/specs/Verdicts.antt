@@ -1,0 +1,39 @@
+-- What the check of a batch comes back with: accepted with the counts of files 2, 5, 6 and 8, or its first fault.
+use Prim.Native.Nat.{ℕ}
+use mathlib.Core.Path.{_≡_}
+use mathlib.Core.List.{List, [], _∷_}
+use lib.Dec.{eqb}
+use lib.ListN.{length}
+use Rattle.laws.specs.Tests.{pick}
+use Rattle.laws.specs.Numbered.{Numbered, answered}
+use Rattle.file.specs.Files.{fieldsOf}
+use Rattle.file.specs.Records.{recordsIn}
+use Rattle.thirteen.specs.Batch.{Batch, recordsOf}
+use Rattle.fault.specs.Answers.{numberedFault}
+use Rattle.batch.specs.Order.{faultOf}
+use Rattle.batch.specs.declared.Counts.{Counts}
+use Rattle.batch.specs.declared.Verdict.{Verdict}
+
+-- how many records the files 2, 5, 6 and 8 have: stops, lines, trips, trip stops
+unfoldable pub countsOf : Batch → List ℕ
+countsOf b = length (recordsOf b 2) ∷ length (recordsOf b 5) ∷ length (recordsOf b 6) ∷ length (recordsOf b 8) ∷ []
+
+-- the verdict
+unfoldable pub verdictOf : Batch → Numbered
+verdictOf b = pick (eqb (faultOf b .number) 0) (answered (countsOf b)) (faultOf b)
+
+-- document 01's number, place and values for each case
+unfoldable pub numberedVerdict : Verdict → Numbered
+numberedVerdict (Verdict.Accepted c) = answered (c .stops ∷ c .lines ∷ c .trips ∷ c .trip_stops ∷ [])
+numberedVerdict (Verdict.Refused fault) = numberedFault fault
+
+-- the promise of the check
+abbrev pub VerdictIs : Batch → Verdict → Type 0
+VerdictIs b r = numberedVerdict r ≡ verdictOf b
+
+-- the counts of four files by themselves
+pub record Counted (f2 f5 f6 f8 : List ℕ) (c : Counts) : Type 0 where
+  pub stops : c .stops ≡ length (recordsIn (fieldsOf 2) f2)
+  pub lines : c .lines ≡ length (recordsIn (fieldsOf 5) f5)
+  pub trips : c .trips ≡ length (recordsIn (fieldsOf 6) f6)
+  pub trip-stops : c .trip_stops ≡ length (recordsIn (fieldsOf 8) f8)

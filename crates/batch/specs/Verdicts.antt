@@ -24,7 +24,7 @@ verdictOf b = pick (eqb (faultOf b .number) 0) (answered (countsOf b)) (faultOf 
 
 -- document 01's number, place and values for each case
 unfoldable pub numberedVerdict : Verdict → Numbered
-numberedVerdict (Verdict.Accepted c) = answered (c .stops ∷ c .lines ∷ c .trips ∷ c .trip_stops ∷ [])
+numberedVerdict (Verdict.Accepted c) = answered (c .stops ∷ c .lines ∷ c .trips ∷ c .«trip_stops» ∷ [])
 numberedVerdict (Verdict.Refused fault) = numberedFault fault
 
 -- the promise of the check
@@ -36,4 +36,4 @@ pub record Counted (f2 f5 f6 f8 : List ℕ) (c : Counts) : Type 0 where
   pub stops : c .stops ≡ length (recordsIn (fieldsOf 2) f2)
   pub lines : c .lines ≡ length (recordsIn (fieldsOf 5) f5)
   pub trips : c .trips ≡ length (recordsIn (fieldsOf 6) f6)
-  pub trip-stops : c .trip_stops ≡ length (recordsIn (fieldsOf 8) f8)
+  pub trip-stops : c .«trip_stops» ≡ length (recordsIn (fieldsOf 8) f8)

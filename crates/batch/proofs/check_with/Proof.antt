@@ -9,6 +9,7 @@ use Rattle.laws.specs.Numbered.{Numbered, answered}
 use Rattle.links.proofs.KeyedLaws.{sound-keys}
 use Rattle.amiss.specs.Sound.{SoundFiles}
 use Rattle.thirteen.specs.Batch.{Batch, thirteen}
+use Rattle.alone.specs.Order.{fileStages}
 use Rattle.batch.specs.Order.{stages, faultOf}
 use Rattle.alone.proofs.FileLaws.{legal-files}
 use Rattle.batch.proofs.SoundLaws.{sound-files}
@@ -24,7 +25,7 @@ abbrev files : tie.Start → Batch
 files c = let a = c .args in thirteen (now (a .f1)) (now (a .f2)) (now (a .f3)) (now (a .f4)) (now (a .f5)) (now (a .f6)) (now (a .f7)) (now (a .f8)) (now (a .f9)) (now (a .f10)) (now (a .f11)) (now (a .f12)) (now (a .f13))
 
 returns : tie.Need-returns
-unfolding faultOf
+unfolding faultOf stages fileStages
 returns c =
     let i = c .before in
     let p = i .before in
@@ -33,7 +34,7 @@ returns c =
 
 -- behind 6 the files are sound
 sound : (c : tie.Else1) → SoundFiles (files (begin (c .before .before)))
-unfolding stages
+unfolding stages fileStages
 sound c =
     let i = c .before in
     let p = i .before in
@@ -52,7 +53,7 @@ check-records-requires c κs =
     (sound e, omega (arith, x .survey .kept .1 .1 .1 .1 .1 .1 .1 .1 .1 .1 .1 .1 .1 .1 .0, p .0), x .survey .ensures, p .1)
 
 returns-2 : tie.Need-returns-2
-unfolding faultOf
+unfolding faultOf stages fileStages
 returns-2 c =
     let x = c .before .before .before .before in
     let e = x .before .before in

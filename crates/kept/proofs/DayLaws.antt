@@ -14,6 +14,7 @@ use Rattle.calendar.specs.Signs.{isDaySign}
 use Rattle.field.specs.Names.{mark}
 use Rattle.keys.specs.Keys.{same}
 use Rattle.link.proofs.HasLaws.{one-left, one-right, one-cases, same-equal, equal-same}
+use Rattle.trail.specs.Lists.{some}
 use Rattle.trip.specs.Days.{
   typeOf,
   hasType,
@@ -25,7 +26,6 @@ use Rattle.trip.specs.Days.{
   threeWithOther,
   daysFit,
 }
-use Rattle.trail.specs.Lists.{some}
 use Rattle.trip.proofs.DayLaws.{type-at, at-type, two-marks-at, at-two-marks}
 use Rattle.kept.specs.Trips.{DaysKept}
 use Rattle.kept.proofs.Members.{In, some-in, in-some}

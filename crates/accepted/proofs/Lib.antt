@@ -1,0 +1,3 @@
+pub mod FileRules
+pub mod FieldRules
+pub mod TripRules

@@ -1,0 +1,6 @@
+-- A verdict is Accepted.
+use Rattle.batch.specs.declared.Verdict.{Verdict}
+
+unfoldable pub IsAccepted : Verdict → Type 0
+IsAccepted (Verdict.Accepted counts) = Unit
+IsAccepted (Verdict.Refused fault) = ⊥

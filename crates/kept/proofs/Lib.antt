@@ -1,3 +1,4 @@
 pub mod Members
 pub mod PlaceLaws
 pub mod TimeLaws
+pub mod StopLaws

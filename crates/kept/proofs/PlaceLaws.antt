@@ -12,6 +12,11 @@ use Rattle.laws.specs.Tests.{oneOf, either, never, clash}
 use Rattle.trail.specs.Lists.{some, tally}
 use Rattle.kept.proofs.Members.{some-in, in-some}
 
+-- a test beside one that fails
+pub one-none : (a : Bool) → oneOf a false ≡ a
+one-none true = refl
+one-none false = refl
+
 module _ {A : Type 0} (test : A → Bool) (other : A) where
   -- f is the first place where the test holds
   pub record First (l : List A) (f : ℕ) : Type 0 where
@@ -62,12 +67,8 @@ module _ {A : Type 0} (test : A → Bool) (other : A) where
       (λ t.
       let w = last-of l t in
       (suc (w .0), record { inside = omega (arith, w .1 .inside); holds = w .1 .holds; none = more (w .0) (w .1) }))
-      (λ t. (0, record { inside = omega arith; holds = only (test a) (rw t at s); none = alone t }))
+      (λ t. (0, record { inside = omega arith; holds = rw (one-none (test a)) at (rw t at s); none = alone t }))
     where
-      only : (p : Bool) → oneOf p false ≡ true → p ≡ true
-      only true e = refl
-      only false e = e
-
       more : (e : ℕ) → Last l e → (i : ℕ) → i < suc (length l) → suc e < i → test (getD (a ∷ l) i other) ≡ false
       more e w zero h g = absurd (omega arith)
       more e w (suc i) h g = w .none i (omega arith) (omega arith)

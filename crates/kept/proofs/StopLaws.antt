@@ -12,25 +12,17 @@ use Rattle.file.specs.Format.{Text, Fields}
 use Rattle.field.specs.Values.{isEmpty, value, isTime}
 use Rattle.field.specs.Names.{kilometres, arrival, departure}
 use Rattle.field.proofs.ValueLaws.{time-digits}
+use Rattle.field.proofs.AdmitLaws.{of-three}
 use Rattle.link.proofs.HasLaws.{one-left, one-right}
 use Rattle.trail.specs.Lists.{some, tally}
 use Rattle.trip.specs.Stops.{arrives, departs, timed, passes, blank, firstFits, placeFits, placesFit, timesFit, lengthsFit, stopsFit}
 use Rattle.kept.specs.Trips.{StopsKept}
-use Rattle.kept.proofs.PlaceLaws.{First, Last, ends, two-tally, before-is, behind-is}
+use Rattle.kept.proofs.PlaceLaws.{one-none, First, Last, ends, two-tally, before-is, behind-is}
 use Rattle.kept.proofs.TimeLaws.{times-rise, rise-times, lengths-grow, grow-lengths}
 
 -- refusal 11's statements over the places of a list
 abbrev pub Listed : List Fields → Type 0
 Listed rs = StopsKept ℕ (λ i. i < length rs) (λ i. getD rs i []) (λ i j. i < j)
-
--- a test beside one that fails, and three tests in either grouping
-one-none : (a : Bool) → oneOf a false ≡ a
-one-none true = refl
-one-none false = refl
-
-one-joined : (a b c : Bool) → oneOf (oneOf a b) c ≡ oneOf a (oneOf b c)
-one-joined true b c = refl
-one-joined false b c = refl
 
 -- the walk tries each record by what stands before it and behind it
 places-each : (begun : Bool) (rs : List Fields) → placesFit begun rs ≡ true
@@ -39,7 +31,7 @@ unfolding placesFit some
 places-each begun [] e i h = absurd (omega arith)
 places-each begun (r ∷ rs) e zero h = rw (one-none begun) (both-left (placeFits begun (some timed rs) r) (placesFit (oneOf begun (timed r)) rs) e)
 places-each begun (r ∷ rs) e (suc i) h =
-    rw (← one-joined begun (timed r) (some timed (take i rs)))
+    rw (← of-three begun (timed r) (some timed (take i rs)))
     (places-each (oneOf begun (timed r)) rs (both-right (placeFits begun (some timed rs) r) (placesFit (oneOf begun (timed r)) rs) e) i (omega arith))
 
 each-places : (begun : Bool) (rs : List Fields)
@@ -50,7 +42,7 @@ each-places begun [] f = refl
 each-places begun (r ∷ rs) f =
     both-true (placeFits begun (some timed rs) r) (placesFit (oneOf begun (timed r)) rs)
     (rw (one-none begun) at (f 0 (omega arith)))
-    (each-places (oneOf begun (timed r)) rs (λ i h. rw (one-joined begun (timed r) (some timed (take i rs))) (f (suc i) (omega arith))))
+    (each-places (oneOf begun (timed r)) rs (λ i h. rw (of-three begun (timed r) (some timed (take i rs))) (f (suc i) (omega arith))))
 
 -- a time isn't empty, so a record with a time isn't blank
 time-given : (t : Text) → isTime t ≡ true → isEmpty t ≡ false
@@ -63,11 +55,9 @@ timed-given r t =
     (λ p. both-false (isEmpty (arrival r)) (isEmpty (departure r)) (time-given (arrival r) p))
     (λ p.
     let d : isTime (departure r) ≡ true = rw p at t in
-    rw (time-given (departure r) d) (never-both (isEmpty (arrival r))))
-  where
-    never-both : (a : Bool) → both a false ≡ false
-    never-both true = refl
-    never-both false = refl
+    either (isEmpty (arrival r))
+    (λ q. rw (q, time-given (departure r) d))
+    (λ q. rw q))
 
 -- an arrival is a time, and so is a departure
 arrives-timed : (r : Fields) → arrives r ≡ true → timed r ≡ true

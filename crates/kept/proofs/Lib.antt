@@ -1,3 +1,10 @@
 pub mod Members
 pub mod DayLaws
 pub mod TripDays
+pub mod PlaceLaws
+pub mod TimeLaws
+pub mod StopLaws
+pub mod OrderLaws
+pub mod CarryLaws
+pub mod TripStops
+pub mod RuleLaws

@@ -141,7 +141,7 @@ module _ (file line trip : ℕ) (count : length (keyFields file) ≡ 3) where
       (λ t. rw t (trip-apart rs (o .1)))
 
   -- so they strictly rise
-  trip-climbing : (rs : List Fields) → Once file rs → Climbing (third file) (upward file line trip rs)
+  pub trip-climbing : (rs : List Fields) → Once file rs → Climbing (third file) (upward file line trip rs)
   unfolding upward
   trip-climbing rs o = rising-climbing (third file) (select (ofTrip file line trip) rs) (trip-apart rs o)
 

@@ -1,3 +1,4 @@
 pub mod FileRules
 pub mod FieldRules
 pub mod TripRules
+pub mod Exactly

@@ -1,37 +1,37 @@
 -- Demand 2: a batch is accepted exactly when it meets the rules of document 01. The order in which they are tried decides only which fault is named.
 use mathlib.Core.Path.{_≡_, refl, sym, ap, _∙_}
 use mathlib.Core.Bool.{true, false}
-use mathlib.Core.List.{List, [], _∷_}
+use mathlib.Core.List.{List, []}
 use mathlib.Core.Logic.{_↔_}
 use Prim.Native.Nat.{ℕ, _+_, _-_, _≤_, _<_}
 use native.Mathlib.Omega.{arith}
 use lib.Dec.{eqb}
 use lib.ListN.{length, getD}
-use borrow.Author.Tests.{eqb-true, eqb-false}
+use borrow.Author.Tests.{eqb-true}
 use Rattle.laws.specs.Tests.{either}
 use Rattle.laws.specs.Numbered.{Numbered, answered}
 use Rattle.file.specs.Format.{Fields}
 use Rattle.field.specs.Stage.{fieldFault}
 use Rattle.thirteen.specs.Batch.{Batch, recordsOf, overFiles}
 use Rattle.thirteen.proofs.OverLaws.{over-each}
-use Rattle.link.specs.Met.{Stands, Each, number, Linking}
+use Rattle.link.specs.Met.{Stands, Linking}
 use Rattle.link.specs.Stage.{linksFault}
 use Rattle.link.proofs.LinkingLaws.{linked}
 use Rattle.link.proofs.SignedLaws.{signed}
 use Rattle.link.proofs.SoundLaws.{links-sound}
 use Rattle.trip.specs.Stage.{tripsFault}
 use Rattle.trip.specs.Stops.{timed, passes}
+use Rattle.trips.specs.Standing.{Standing}
 use Rattle.kept.proofs.TripDays.{days-exactly}
 use Rattle.kept.proofs.TripStops.{stops-exactly}
 use Rattle.kept.proofs.RuleLaws.{rule-no-pass}
-use Rattle.fault.specs.Answers.{numberedFault}
 use Rattle.fault.specs.OneResult.{fault-no-values}
 use Rattle.alone.specs.Order.{lengthFault, bytesFault, versionFault, firstFault}
 use Rattle.alone.proofs.OrderLaws.{first-each}
 use Rattle.batch.specs.Order.{stages, faultOf}
 use Rattle.batch.specs.Verdicts.{countsOf, verdictOf, numberedVerdict, VerdictIs}
 use Rattle.batch.specs.declared.Verdict.{Verdict}
-use Rattle.batch.proofs.AcceptedLaws.{no-links}
+use Rattle.batch.proofs.AcceptedLaws.{no-links, stands}
 use Rattle.accepted.specs.Keeps.{Keeps}
 use Rattle.accepted.specs.Verdicts.{IsAccepted}
 use Rattle.accepted.proofs.FileRules.{each-over, length-kept, kept-length, bytes-kept, kept-bytes, version-kept, kept-version}
@@ -54,7 +54,7 @@ unfolding faultOf stages
 keeps b e =
     let zero-at : (i : ℕ) → i < length (stages b) → getD (stages b) i (answered []) .number ≡ 0 = first-each (stages b) e in
     let fields : (file : ℕ) → 2 ≤ file → file ≤ 13 → fieldFault file (recordsOf b file) .number ≡ 0 =
-        λ file h l. at-file (λ file. fieldFault file (recordsOf b file)) 2 12 (zero-at 3 (omega arith)) file h (omega arith) in
+    λ file h l. at-file (λ file. fieldFault file (recordsOf b file)) 2 12 (zero-at 3 (omega arith)) file h (omega arith) in
     let rules : Rules b = all-rules b (λ file h l. rules-kept b file (fields file h l)) in
     let none : linksFault b ≡ answered [] = no-links b (zero-at 4 (omega arith)) in
     let k : Linking b = linked b none in
@@ -92,13 +92,13 @@ no-fault b k =
     let e1 : overFiles (bytesFault b) 1 13 .number ≡ 0 = each-over (bytesFault b) 1 13 (λ i l. kept-bytes b (1 + i) (omega arith) (omega arith) (k .legal (1 + i) (omega arith) (omega arith))) in
     let e2 : versionFault (recordsOf b 1) .number ≡ 0 = kept-version (recordsOf b 1) (k .version) in
     let e3 : overFiles (λ file. fieldFault file (recordsOf b file)) 2 12 .number ≡ 0 =
-        each-over (λ file. fieldFault file (recordsOf b file)) 2 12
-        (λ i l. kept-fields b (2 + i) (k .kinds (2 + i) (omega arith) (omega arith)) (rules-all b rules (2 + i) (omega arith) (omega arith))) in
+    each-over (λ file. fieldFault file (recordsOf b file)) 2 12
+    (λ i l. kept-fields b (2 + i) (k .kinds (2 + i) (omega arith) (omega arith)) (rules-all b rules (2 + i) (omega arith) (omega arith))) in
     let e4 : linksFault b .number ≡ 0 = ap (λ (a : Numbered). a .number) (links-sound b (k .linking) (k .signs)) in
     let e5 : tripsFault b .number ≡ 0 =
-        kept-trips b
-        (λ r s.
-        (days-exactly b r s (k .linking .trips-key) (k .linking .codes-key) .1 (k .days r s), stops-exactly b r s (k .linking .trip-stops-key) (no-pass b rules) .1 (k .stops r s))) in
+    kept-trips b
+    (λ r s.
+    (days-exactly b r s (k .linking .trips-key) (k .linking .codes-key) .1 (k .days r s), stops-exactly b r s (k .linking .trip-stops-key) (no-pass b rules) .1 (k .stops r s))) in
     rw (e0, e1, e2, e3, e4, e5)
 
 -- the verdict is the fault's, or has four values
@@ -128,3 +128,7 @@ is-zero (Verdict.Refused f) a = absurd a
 pub accepted-exactly : (b : Batch) (v : Verdict) → VerdictIs b v → IsAccepted v ↔ Keeps b
 accepted-exactly b v i =
     (λ a. keeps b (verdict-fault b (sym (ap (λ (a : Numbered). a .number) i) ∙ is-zero v a)), λ k. not-refused b v i (no-fault b k))
+
+-- and a batch that is accepted stands, so that its trips may be asked for without another check
+pub accepted-standing : (b : Batch) (v : Verdict) → VerdictIs b v → IsAccepted v → Standing b
+accepted-standing b v i a = stands b (verdict-fault b (sym (ap (λ (a : Numbered). a .number) i) ∙ is-zero v a))

@@ -1,6 +1,6 @@
 -- 5 and 6 find nothing in a file exactly if each field of each record is of its kind and each record keeps its file's rules.
 use mathlib.Core.Path.{_≡_, refl, subst}
-use mathlib.Core.Bool.{true, false}
+use mathlib.Core.Bool.{true}
 use mathlib.Core.List.{List, [], _∷_}
 use Prim.Native.Nat.{ℕ, zero, suc, _+_, _-_, _≤_, _<_}
 use native.Mathlib.Omega.{arith}
@@ -9,7 +9,7 @@ use lib.ListN.{length, getD}
 use borrow.Author.Tests.{eqb-true, eq-eqb}
 use Rattle.laws.specs.Tests.{either}
 use Rattle.file.specs.Files.{fieldsOf}
-use Rattle.file.specs.Format.{Text, Fields}
+use Rattle.file.specs.Format.{Fields}
 use Rattle.field.specs.Kinds.{kindOf, admits}
 use Rattle.field.specs.Names.{field}
 use Rattle.field.specs.Rules.{meets, stopRule, firmRule, lineRule, tripStopRule, timeCodeRule, carrierRule}

@@ -1,12 +1,12 @@
 -- 1 to 4 find nothing exactly if no file is too long, each is legal, and VerzeJDF is one record `1.8`.
-use mathlib.Core.Path.{_≡_, refl, sym, ap, _∙_}
-use mathlib.Core.Bool.{true, false}
+use mathlib.Core.Path.{_≡_, refl, ap}
+use mathlib.Core.Bool.{true}
 use mathlib.Core.List.{List, [], _∷_}
-use Prim.Native.Nat.{ℕ, zero, suc, _+_, _-_, _≤_, _<_}
+use Prim.Native.Nat.{ℕ, zero, suc, _+_, _≤_, _<_}
 use native.Mathlib.Omega.{arith}
-use lib.Dec.{eqb, leb}
+use lib.Dec.{leb}
 use lib.ListN.{length, getD}
-use borrow.Author.Tests.{eqb-true, eqb-false, leb-true}
+use borrow.Author.Tests.{leb-true}
 use Rattle.laws.specs.Tests.{either}
 use Rattle.laws.specs.Numbered.{Numbered}
 use Rattle.file.specs.Files.{fieldCounts, fieldsOf, longest}

@@ -39,7 +39,7 @@ use Rattle.trips.proofs.ReadyLaws.{ready-file}
 use Rattle.fault.specs.Answers.{numberedFault}
 use Rattle.batch.specs.Order.{faultOf}
 use Rattle.fault.specs.declared.Fault.{Fault}
-use Rattle.batch.proofs.AcceptedLaws.{kept, standing}
+use Rattle.batch.proofs.AcceptedLaws.{standing}
 use Rattle.counter.specs.Answers.{hasTrip, runsAnswer}
 use Rattle.counter.specs.Plain.{LineMet, tripRecord, plainAnswer}
 
@@ -178,4 +178,4 @@ module _ (b : Batch) (line trip d : ℕ) (holidays : List ℕ) where
       → plainAnswer (recordsOf b codesFile) (recordsOf b linesFile) (recordsOf b tripsFile) (recordsOf b timeCodesFile) line trip d holidays
       ≡ runsAnswer b line trip d holidays
   unfolding runsAnswer
-  runs-plain e h = rw (e, le-leb d 73048 h) (answer-view b line trip d holidays (kept b e .legal tripsFile (omega arith) (omega arith)))
+  runs-plain e h = rw (e, le-leb d 73048 h) (answer-view b line trip d holidays (standing b e .sound tripsFile (omega arith) (omega arith) .legal))

@@ -5,6 +5,7 @@
 #   kit                      the folder of the Rattle kit that `rt` belongs to
 #   CC, CXX, NM, LINK, RUN   the compilers and nm for x86-64, what they are told when they link, and what runs their programs (arrays)
 #   archive NAME             proves the crate and leaves target/staticlib/libNAME.a
+#   program NAME             proves the program and leaves target/bin/NAME
 #
 # Programs over the archive are for x86-64. On another machine they are compiled by a cross compiler, linked statically, since there is no x86-64
 # C library to load, and run under the kit's emulator.
@@ -62,13 +63,21 @@ else
     RUN=("$kit/on/$machine/toolchain/bin/qemu-x86_64")
 fi
 
-archive() {
+quietly() {
     local log
     log=$(mktemp)
-    if ! rt staticlib "$1" > "$log" 2>&1; then
+    if ! "$@" > "$log" 2>&1; then
         cat "$log" >&2
         rm -f "$log"
         return 1
     fi
     rm -f "$log"
+}
+
+archive() {
+    quietly rt staticlib "$1"
+}
+
+program() {
+    quietly rt check "$1"
 }

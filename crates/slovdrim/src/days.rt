@@ -1,160 +1,57 @@
 // The calendar's calls for C (document 01, "Days"). Each result's `number` is 0 for an answer and 12 for a refusal, and the other fields
 // are then the answer's values, or 0 with a refusal. Lists are lent for the call alone; nothing is written.
-use calendar::Date;
-use calendar::Day;
-use calendar::DayOfWeek;
-use calendar::Week;
-use calendar::Whether;
-ghost use mathlib.Core.Path.{_≡_};
-ghost use Rattle.calendar.specs.Answers.{dayAnswer, dateAnswer, weekdayAnswer, weekAnswer, holidayAnswer, fitsAnswer, bit};
-ghost use Rattle.slovdrim.specs.Days.{dayResult, dateResult, weekdayResult, weekResult, holidayResult, fitsResult};
-
-#[repr(C)]
-pub struct DayResult {
-    pub number: u64,
-    pub day: u64,
-}
-
-#[repr(C)]
-pub struct DateResult {
-    pub number: u64,
-    pub day: u64,
-    pub month: u64,
-    pub year: u64,
-}
-
-#[repr(C)]
-pub struct WeekdayResult {
-    pub number: u64,
-    pub weekday: u64,
-}
-
-#[repr(C)]
-pub struct WeekResult {
-    pub number: u64,
-    pub week: u64,
-    pub odd: u64,
-}
-
-#[repr(C)]
-pub struct HolidayResult {
-    pub number: u64,
-    pub holiday: u64,
-}
-
-#[repr(C)]
-pub struct FitsResult {
-    pub number: u64,
-    pub fits: u64,
-}
+use dayresults::DateResult;
+use dayresults::DayResult;
+use dayresults::FitsResult;
+use dayresults::HolidayResult;
+use dayresults::WeekResult;
+use dayresults::WeekdayResult;
+ghost use Rattle.dayresults.specs.Results.{DayGives, DateGives, WeekdayGives, WeekGives, HolidayGives, FitsGives};
 
 // The day number of a date.
 #[no_mangle]
 pub extern "C" fn slovdrim_day(day: u64, month: u64, year: u64) -> DayResult
-    ensures { λ r. ⌜ r ≡ dayResult (dayAnswer day month year) ⌝ }
+    ensures { λ r. ⌜ DayGives day month year r ⌝ }
 {
-    match calendar::day_of(day, month, year) {
-        Day::At(n) => DayResult { number: 0, day: n },
-        Day::NotReal => DayResult { number: 12, day: 0 },
-    }
+    dayresults::day(day, month, year)
 }
 
 // The date of a day number.
 #[no_mangle]
 pub extern "C" fn slovdrim_date(number: u64) -> DateResult
-    ensures { λ r. ⌜ r ≡ dateResult (dateAnswer number) ⌝ }
+    ensures { λ r. ⌜ DateGives number r ⌝ }
 {
-    match calendar::date_of(number) {
-        Date::On(d, m, y) => DateResult {
-            number: 0,
-            day: d,
-            month: m,
-            year: y,
-        },
-        Date::NoDate => DateResult {
-            number: 12,
-            day: 0,
-            month: 0,
-            year: 0,
-        },
-    }
+    dayresults::date(number)
 }
 
 // The weekday of a day, from Monday 1 to Sunday 7.
 #[no_mangle]
 pub extern "C" fn slovdrim_weekday(number: u64) -> WeekdayResult
-    ensures { λ r. ⌜ r ≡ weekdayResult (weekdayAnswer number) ⌝ }
+    ensures { λ r. ⌜ WeekdayGives number r ⌝ }
 {
-    match calendar::weekday_of(number) {
-        DayOfWeek::Is(w) => WeekdayResult {
-            number: 0,
-            weekday: w,
-        },
-        DayOfWeek::NoWeekday => WeekdayResult {
-            number: 12,
-            weekday: 0,
-        },
-    }
-}
-
-// 1 for true, 0 for false.
-fn bit_of(b: bool) -> u64
-    ensures { λ r. ⌜ r ≡ bit b ⌝ }
-{
-    if b { 1 } else { 0 }
+    dayresults::weekday(number)
 }
 
 // The ISO week of a day, and 1 where it is odd.
 #[no_mangle]
 pub extern "C" fn slovdrim_week(number: u64) -> WeekResult
-    ensures { λ r. ⌜ r ≡ weekResult (weekAnswer number) ⌝ }
+    ensures { λ r. ⌜ WeekGives number r ⌝ }
 {
-    match calendar::week_of(number) {
-        Week::Counted(w, odd) => WeekResult {
-            number: 0,
-            week: w,
-            odd: bit_of(odd),
-        },
-        Week::NoWeek => WeekResult {
-            number: 12,
-            week: 0,
-            odd: 0,
-        },
-    }
+    dayresults::week(number)
 }
 
 // 1 where a day is in the list of holidays.
 #[no_mangle]
 pub extern "C" fn slovdrim_holiday(number: u64, holidays: &[u64]) -> HolidayResult
-    ensures { λ r. ⌜ r ≡ holidayResult (holidayAnswer number (now (holidays .entry))) ⌝ }
+    ensures { λ r. ⌜ HolidayGives number (now (holidays .entry)) r ⌝ }
 {
-    match calendar::holiday(number, holidays) {
-        Whether::Yes => HolidayResult {
-            number: 0,
-            holiday: 1,
-        },
-        Whether::Not => HolidayResult {
-            number: 0,
-            holiday: 0,
-        },
-        Whether::NoDay => HolidayResult {
-            number: 12,
-            holiday: 0,
-        },
-    }
+    dayresults::holiday(number, holidays)
 }
 
 // 1 where a day sign fits a day.
 #[no_mangle]
 pub extern "C" fn slovdrim_fits(sign: u8, number: u64, holidays: &[u64]) -> FitsResult
-    ensures { λ r. ⌜ r ≡ fitsResult (fitsAnswer sign number (now (holidays .entry))) ⌝ }
+    ensures { λ r. ⌜ FitsGives sign number (now (holidays .entry)) r ⌝ }
 {
-    match calendar::fits(sign, number, holidays) {
-        Whether::Yes => FitsResult { number: 0, fits: 1 },
-        Whether::Not => FitsResult { number: 0, fits: 0 },
-        Whether::NoDay => FitsResult {
-            number: 12,
-            fits: 0,
-        },
-    }
+    dayresults::fits(sign, number, holidays)
 }

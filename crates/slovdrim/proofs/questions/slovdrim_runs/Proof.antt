@@ -1,7 +1,7 @@
 -- `slovdrim_runs` hands on what the counter answers.
 use mathlib.Core.Path.{ap, _∙_}
 use borrow.Author.Needs.{needs}
-use Rattle.slovdrim.specs.Questions.{runsResult}
+use Rattle.tripresults.specs.Results.{runsResult}
 use Rattle.slovdrim.proofs.questions.slovdrim_runs.Statement.{statement}
 use Rattle.slovdrim.proofs.questions.slovdrim_runs.Tie as tie
 

@@ -1,7 +1,7 @@
 -- `slovdrim_trip_stop` hands on what is answered of a trip's stop.
 use mathlib.Core.Path.{ap, _∙_}
 use borrow.Author.Needs.{needs}
-use Rattle.slovdrim.specs.Questions.{stopResult}
+use Rattle.tripresults.specs.Results.{stopResult}
 use Rattle.slovdrim.proofs.questions.slovdrim_trip_stop.Statement.{statement}
 use Rattle.slovdrim.proofs.questions.slovdrim_trip_stop.Tie as tie
 

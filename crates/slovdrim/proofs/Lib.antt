@@ -1,2 +1,0 @@
-pub mod FileResults
-pub mod QuestionResults

@@ -1,6 +1,7 @@
--- What the calendar's calls come back with: for each answer's enum document 01's number and values, and for each call the answer.
+-- What the calendar's calls come back with: for each answer's enum document 01's number and values, for each call the answer and the promise.
 -- A date that isn't real and a day past 73048 are refusal 12, whatever else was asked.
 use Prim.Native.Nat.{ℕ}
+use mathlib.Core.Path.{_≡_}
 use mathlib.Core.Bool.{Bool}
 use mathlib.Core.List.{List, [], _∷_}
 use Rattle.laws.specs.Tests.{pick}
@@ -67,3 +68,22 @@ holidayAnswer n holidays = pick (isDay n) (answered (bit (isHoliday holidays n) 
 -- whether a day sign fits a day
 unfoldable pub fitsAnswer : ℕ → ℕ → List ℕ → Numbered
 fitsAnswer sign n holidays = pick (isDay n) (answered (bit (signFits sign n holidays) ∷ [])) (refused 12)
+
+-- the promises
+abbrev pub DayIs : ℕ → ℕ → ℕ → Day → Type 0
+DayIs d m y r = numberedDay r ≡ dayAnswer d m y
+
+abbrev pub DateIs : ℕ → Date → Type 0
+DateIs n r = numberedDate r ≡ dateAnswer n
+
+abbrev pub WeekdayIs : ℕ → DayOfWeek → Type 0
+WeekdayIs n r = numberedWeekday r ≡ weekdayAnswer n
+
+abbrev pub WeekIs : ℕ → Week → Type 0
+WeekIs n r = numberedWeek r ≡ weekAnswer n
+
+abbrev pub HolidayIs : ℕ → List ℕ → Whether → Type 0
+HolidayIs n holidays r = numberedWhether r ≡ holidayAnswer n holidays
+
+abbrev pub FitsIs : ℕ → ℕ → List ℕ → Whether → Type 0
+FitsIs sign n holidays r = numberedWhether r ≡ fitsAnswer sign n holidays

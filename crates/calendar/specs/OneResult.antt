@@ -1,12 +1,11 @@
--- Each public call's promise allows one result only: its answer's numbering tells all cases apart, and an equation with such a numbering
--- settles the result (`settled` of laws). One line for each call, on the predicate that its contract states.
+-- Each answer's numbering tells all cases apart, so that the promise of each call allows one result only (the table in the crate `determined`).
 use mathlib.Core.Path.{_≡_, refl, ap}
 use mathlib.Core.Bool.{Bool, true, false}
 use mathlib.Core.List.{List, [], _∷_}
 use Prim.Native.Nat.{ℕ}
 use native.Mathlib.Omega.{arith}
 use Rattle.laws.specs.Numbered.{Numbered}
-use Rattle.laws.specs.Settled.{Settled, OneToOne, settled}
+use Rattle.laws.specs.Settled.{OneToOne}
 use Rattle.calendar.specs.declared.Day.{Day}
 use Rattle.calendar.specs.declared.Day.the-variants.{At, NotReal}
 use Rattle.calendar.specs.declared.Date.{Date}
@@ -17,7 +16,7 @@ use Rattle.calendar.specs.declared.Week.{Week}
 use Rattle.calendar.specs.declared.Week.the-variants.{Counted, NoWeek}
 use Rattle.calendar.specs.declared.Whether.{Whether}
 use Rattle.calendar.specs.declared.Whether.the-variants.{Yes, Not, NoDay}
-use Rattle.calendar.specs.Answers.{bit, numberedDay, numberedDate, numberedWeekday, numberedWeek, numberedWhether, dayAnswer, dateAnswer, weekdayAnswer, weekAnswer, holidayAnswer, fitsAnswer}
+use Rattle.calendar.specs.Answers.{bit, numberedDay, numberedDate, numberedWeekday, numberedWeek, numberedWhether}
 
 -- an answer is no refusal; equal answers have equal values
 apart : {P : Type 0} (a b : Numbered) → a ≡ b → a .number ≡ 0 → b .number ≡ 12 → P
@@ -78,22 +77,3 @@ whether-one Not NoDay e = apart _ _ e refl refl
 whether-one NoDay Yes e = apart′ _ _ e refl refl
 whether-one NoDay Not e = apart′ _ _ e refl refl
 whether-one NoDay NoDay e = refl
-
--- the table
-pub day-of-settled : (d m y : ℕ) → Settled (λ (r : Day). numberedDay r ≡ dayAnswer d m y)
-day-of-settled d m y = settled numberedDay day-one (dayAnswer d m y)
-
-pub date-of-settled : (n : ℕ) → Settled (λ (r : Date). numberedDate r ≡ dateAnswer n)
-date-of-settled n = settled numberedDate date-one (dateAnswer n)
-
-pub weekday-of-settled : (n : ℕ) → Settled (λ (r : DayOfWeek). numberedWeekday r ≡ weekdayAnswer n)
-weekday-of-settled n = settled numberedWeekday weekday-one (weekdayAnswer n)
-
-pub week-of-settled : (n : ℕ) → Settled (λ (r : Week). numberedWeek r ≡ weekAnswer n)
-week-of-settled n = settled numberedWeek week-one (weekAnswer n)
-
-pub holiday-settled : (n : ℕ) (holidays : List ℕ) → Settled (λ (r : Whether). numberedWhether r ≡ holidayAnswer n holidays)
-holiday-settled n holidays = settled numberedWhether whether-one (holidayAnswer n holidays)
-
-pub fits-settled : (sign n : ℕ) (holidays : List ℕ) → Settled (λ (r : Whether). numberedWhether r ≡ fitsAnswer sign n holidays)
-fits-settled sign n holidays = settled numberedWhether whether-one (fitsAnswer sign n holidays)

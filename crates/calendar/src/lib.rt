@@ -5,8 +5,7 @@ pub mod dates; // dates.rt: real dates, the number of a date, the year and month
 pub mod weeks; // weeks.rt: weekdays and ISO weeks
 pub mod signs; // signs.rt: holidays, day signs, odd and even weeks, periods
 
-ghost use mathlib.Core.Path.{_≡_};
-ghost use Rattle.calendar.specs.Answers.{numberedDay, numberedDate, numberedWeekday, numberedWeek, numberedWhether, dayAnswer, dateAnswer, weekdayAnswer, weekAnswer, holidayAnswer, fitsAnswer};
+ghost use Rattle.calendar.specs.Answers.{DayIs, DateIs, WeekdayIs, WeekIs, HolidayIs, FitsIs};
 
 // A date's day number.
 pub enum Day {
@@ -41,7 +40,7 @@ pub enum Whether {
 
 // The day number of a date.
 pub fn day_of(day: u64, month: u64, year: u64) -> Day
-    ensures { λ r. ⌜ numberedDay r ≡ dayAnswer day month year ⌝ }
+    ensures { λ r. ⌜ DayIs day month year r ⌝ }
 {
     if dates::is_date(day, month, year) {
         Day::At(dates::day_number(day, month, year))
@@ -52,7 +51,7 @@ pub fn day_of(day: u64, month: u64, year: u64) -> Day
 
 // The date of a day number.
 pub fn date_of(number: u64) -> Date
-    ensures { λ r. ⌜ numberedDate r ≡ dateAnswer number ⌝ }
+    ensures { λ r. ⌜ DateIs number r ⌝ }
 {
     if dates::is_day(number) {
         let year = dates::year_of(number);
@@ -66,7 +65,7 @@ pub fn date_of(number: u64) -> Date
 
 // The weekday of a day.
 pub fn weekday_of(number: u64) -> DayOfWeek
-    ensures { λ r. ⌜ numberedWeekday r ≡ weekdayAnswer number ⌝ }
+    ensures { λ r. ⌜ WeekdayIs number r ⌝ }
 {
     if dates::is_day(number) {
         DayOfWeek::Is(weeks::weekday(number))
@@ -77,7 +76,7 @@ pub fn weekday_of(number: u64) -> DayOfWeek
 
 // The ISO week of a day, and whether it is odd.
 pub fn week_of(number: u64) -> Week
-    ensures { λ r. ⌜ numberedWeek r ≡ weekAnswer number ⌝ }
+    ensures { λ r. ⌜ WeekIs number r ⌝ }
 {
     if dates::is_day(number) {
         Week::Counted(weeks::week_number(number), weeks::odd_week(number))
@@ -88,7 +87,7 @@ pub fn week_of(number: u64) -> Week
 
 // Whether a day is in the list of holidays.
 pub fn holiday(number: u64, holidays: &[u64]) -> Whether
-    ensures { λ r. ⌜ numberedWhether r ≡ holidayAnswer number (now (holidays .entry)) ⌝ }
+    ensures { λ r. ⌜ HolidayIs number (now (holidays .entry)) r ⌝ }
 {
     if dates::is_day(number) {
         if signs::is_holiday(number, holidays) {
@@ -101,7 +100,7 @@ pub fn holiday(number: u64, holidays: &[u64]) -> Whether
 
 // Whether a day sign fits a day.
 pub fn fits(sign: u8, number: u64, holidays: &[u64]) -> Whether
-    ensures { λ r. ⌜ numberedWhether r ≡ fitsAnswer sign number (now (holidays .entry)) ⌝ }
+    ensures { λ r. ⌜ FitsIs sign number (now (holidays .entry)) r ⌝ }
 {
     if dates::is_day(number) {
         if signs::sign_fits(sign, number, holidays) {

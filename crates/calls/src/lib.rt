@@ -4,6 +4,7 @@ use batch::check_with;
 use fault::Fault;
 use fault::is_none;
 use field::value_of;
+use file::Refusal;
 use file::classes;
 use halts::count_stops;
 use halts::nth_stop;
@@ -36,9 +37,8 @@ ghost use Rattle.trip.specs.Stage.{tripsFile};
 ghost use Rattle.trip.specs.Stops.{timed};
 ghost use Rattle.calling.specs.Calling.{travelled, goesUp};
 ghost use Rattle.halts.specs.Halts.{plainSigns};
-ghost use Rattle.calls.specs.Answers.{stopAnswer};
 ghost use Rattle.calls.specs.Halt.{signSum};
-ghost use Rattle.calls.specs.Numbers.{numberedStop};
+ghost use Rattle.calls.specs.Numbers.{numberedStop, StopIs};
 ghost use Rattle.calls.specs.Plain.{haltNumbers, plainHalt, plainNth, plainStop};
 
 // A trip's stop, in numbers: 1 for yes and 0 for no, minutes of the day or 0, signs as a sum, and how many stops the trip has.
@@ -56,12 +56,10 @@ pub struct Halt {
 
 // The answer.
 pub enum Stop {
-    // The batch's own refusal.
+    // The batch's own refusal; or 20, the trip has no such stop.
     Refused(Fault),
     // There is no such trip.
     NoTrip,
-    // It has no such stop.
-    NoStop,
     // The stop.
     Is(Halt),
 }
@@ -158,11 +156,11 @@ fn answer_halt(
     ensures { λ r. ⌜ numberedStop r ≡ plainNth (recordsIn (fieldsOf codesFile) (now (f3 .entry))) (recordsIn (fieldsOf 7) (now (f7 .entry))) (recordsIn (fieldsOf tripStopsFile) (now (f8 .entry))) line trip n ⌝ }
 {
     if n == 0 {
-        return Stop::NoStop;
+        return Stop::Refused(Fault::File(Refusal::NoSuch));
     }
     let at = nth_stop(n - 1, f8, order, ways, line, trip, class);
     if at >= f8.len() {
-        return Stop::NoStop;
+        return Stop::Refused(Fault::File(Refusal::NoSuch));
     }
     Stop::Is(halt_at(at, line, trip, f3, f7, f8, order, ways, class))
 }
@@ -215,7 +213,7 @@ pub fn trip_stop<'a>(
     trip: u64,
     n: u64,
 ) -> Stop
-    ensures { λ r. ⌜ numberedStop r ≡ stopAnswer (thirteen (now (f1 .entry)) (now (f2 .entry)) (now (f3 .entry)) (now (f4 .entry)) (now (f5 .entry)) (now (f6 .entry)) (now (f7 .entry)) (now (f8 .entry)) (now (f9 .entry)) (now (f10 .entry)) (now (f11 .entry)) (now (f12 .entry)) (now (f13 .entry))) line trip n ⌝ }
+    ensures { λ r. ⌜ StopIs (thirteen (now (f1 .entry)) (now (f2 .entry)) (now (f3 .entry)) (now (f4 .entry)) (now (f5 .entry)) (now (f6 .entry)) (now (f7 .entry)) (now (f8 .entry)) (now (f9 .entry)) (now (f10 .entry)) (now (f11 .entry)) (now (f12 .entry)) (now (f13 .entry))) line trip n r ⌝ }
 {
     let class = classes();
     let mut ways: [usize; 33] = [0; 33];

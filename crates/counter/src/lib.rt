@@ -16,8 +16,7 @@ ghost use Rattle.link.specs.Signs.{codesFile};
 ghost use Rattle.thirteen.specs.Batch.{thirteen};
 ghost use Rattle.coded.specs.Ready.{Ready};
 ghost use Rattle.trip.specs.Stage.{tripsFile};
-ghost use Rattle.counter.specs.Answers.{runsAnswer};
-ghost use Rattle.counter.specs.Numbers.{numberedRuns};
+ghost use Rattle.counter.specs.Numbers.{numberedRuns, RunsIs};
 ghost use Rattle.counter.specs.Plain.{LineMet, plainAnswer};
 
 // Whether a trip runs on a day.
@@ -103,7 +102,7 @@ pub fn runs<'a>(
     d: u64,
     holidays: &[u64],
 ) -> Running
-    ensures { λ r. ⌜ numberedRuns r ≡ runsAnswer (thirteen (now (f1 .entry)) (now (f2 .entry)) (now (f3 .entry)) (now (f4 .entry)) (now (f5 .entry)) (now (f6 .entry)) (now (f7 .entry)) (now (f8 .entry)) (now (f9 .entry)) (now (f10 .entry)) (now (f11 .entry)) (now (f12 .entry)) (now (f13 .entry))) line trip d (now (holidays .entry)) ⌝ }
+    ensures { λ r. ⌜ RunsIs (thirteen (now (f1 .entry)) (now (f2 .entry)) (now (f3 .entry)) (now (f4 .entry)) (now (f5 .entry)) (now (f6 .entry)) (now (f7 .entry)) (now (f8 .entry)) (now (f9 .entry)) (now (f10 .entry)) (now (f11 .entry)) (now (f12 .entry)) (now (f13 .entry))) line trip d (now (holidays .entry)) r ⌝ }
 {
     let class = classes();
     let mut ways: [usize; 33] = [0; 33];

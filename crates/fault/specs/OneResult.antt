@@ -14,21 +14,26 @@ use Rattle.file.specs.declared.Refusal.{Refusal}
 use Rattle.fault.specs.declared.Fault.{Fault}
 use Rattle.fault.specs.Answers.{numberedFault}
 
--- a file's own refusals are none of 4 to 11
-abbrev fourToEleven : ℕ → Bool
-fourToEleven n = both (leb 4 n) (leb n 11)
+-- a number of the refusals from this one to 19
+abbrev pub within : ℕ → ℕ → Bool
+within from n = both (leb from n) (leb n 19)
 
-outside : (r : Refusal) → fourToEleven (numbered r .number) ≡ false
+-- none is a file's own
+outside : (r : Refusal) → (within 4 (numbered r .number) ≡ false) × (within 12 (numbered r .number) ≡ false)
 unfolding numbered
-outside (Refusal.TooLong file) = refl
-outside (Refusal.Unfit file at) = refl
-outside (Refusal.CutShort file at) = refl
-outside Refusal.NoSuch = refl
-outside Refusal.NotPermitted = refl
-outside Refusal.NoRoom = refl
+outside (Refusal.TooLong file) = (refl, refl)
+outside (Refusal.Unfit file at) = (refl, refl)
+outside (Refusal.CutShort file at) = (refl, refl)
+outside Refusal.NoSuch = (refl, refl)
+outside Refusal.NotPermitted = (refl, refl)
+outside Refusal.NoRoom = (refl, refl)
 
-not-this : (r : Refusal) (n : ℕ) → fourToEleven n ≡ true → eqb (numbered r .number) n ≡ false
-not-this r n h = ne-eqb (numbered r .number) n (λ e. clash (subst (λ (m : ℕ). fourToEleven m ≡ true) (sym e) h) (outside r))
+-- a number that fails a test is none that passes it
+another : (test : ℕ → Bool) (m n : ℕ) → test m ≡ false → test n ≡ true → eqb m n ≡ false
+another test m n f h = ne-eqb m n (λ e. clash (subst (λ (k : ℕ). test k ≡ true) (sym e) h) f)
+
+not-this : (r : Refusal) (n : ℕ) → within 4 n ≡ true → eqb (numbered r .number) n ≡ false
+not-this r n h = another (within 4) (numbered r .number) n (outside r .0) h
 
 -- the case of this number and place
 unfoldable pub caseOf : Numbered → Fault
@@ -83,3 +88,20 @@ fault-no-values (Fault.Dangling file k f) = refl
 fault-no-values (Fault.Misplaced file k f) = refl
 fault-no-values (Fault.Days k) = refl
 fault-no-values (Fault.Stops k) = refl
+
+-- and none has a question's own number, 12 to 19
+below : (f : Fault) → within 12 (numberedFault f .number) ≡ false
+unfolding numberedFault
+below Fault.None = refl
+below (Fault.File r) = outside r .1
+below (Fault.Version k f) = refl
+below (Fault.Unkind file k f) = refl
+below (Fault.Broken file k) = refl
+below (Fault.Used file k) = refl
+below (Fault.Dangling file k f) = refl
+below (Fault.Misplaced file k f) = refl
+below (Fault.Days k) = refl
+below (Fault.Stops k) = refl
+
+pub fault-another : (f : Fault) (n : ℕ) → within 12 n ≡ true → eqb (numberedFault f .number) n ≡ false
+fault-another f n h = another (within 12) (numberedFault f .number) n (below f) h

@@ -31,6 +31,10 @@ faultIn file s (CutShort at) = refusedAt 3 file at
 abbrev pub checkedOf : ℕ → List ℕ → Numbered
 checkedOf file s = asked (faultIn file s) file s
 
+-- the promise of the check
+abbrev pub CheckedIs : ℕ → List ℕ → Checked → Type 0
+CheckedIs file s r = numberedChecked r ≡ checkedOf file s
+
 -- what the pass over a file's records asks: s is legal, and n is how many fields a record of this file has
 pub record Ready (file n : ℕ) (s : List ℕ) : Type 0 where
   pub file-is : isFile file ≡ true

@@ -1,18 +1,16 @@
--- `check_fields` is promised by an equation with document 01's number and place, and so allows one result only: each case of its answer
--- can be told back from what `numberedChecked` gives for it.
+-- `numberedChecked` tells all cases apart: each can be told back from its number and place. So the check of one file allows one result only (the table
+-- in the crate `determined`).
 use mathlib.Core.Path.{_≡_, refl}
 use mathlib.Core.Bool.{false}
-use mathlib.Core.List.{List}
-use Prim.Native.Nat.{ℕ}
 use lib.Dec.{eqb}
 use Rattle.laws.specs.Numbered.{Numbered}
-use Rattle.laws.specs.Settled.{Settled, OneToOne, told-back, settled}
+use Rattle.laws.specs.Settled.{OneToOne, told-back}
 use Rattle.laws.specs.Tests.{pick}
 use Rattle.file.specs.Answers.{numbered}
 use Rattle.file.specs.OneResult.{refusalOf, refusal-told, no-answer}
 use Rattle.file.specs.declared.Refusal.{Refusal}
 use Rattle.fields.specs.declared.Checked.{Checked}
-use Rattle.fields.specs.Check.{numberedChecked, checkedOf}
+use Rattle.fields.specs.Check.{numberedChecked}
 
 -- a file's own refusals are neither 5 nor 6
 no-five : (r : Refusal) → eqb (numbered r .number) 5 ≡ false
@@ -50,6 +48,3 @@ case-told (Checked.Broken file k) = refl
 
 pub checked-one : OneToOne numberedChecked
 checked-one = told-back numberedChecked caseOf case-told
-
-pub check-fields-settled : (file : ℕ) (s : List ℕ) → Settled (λ (r : Checked). numberedChecked r ≡ checkedOf file s)
-check-fields-settled file s = settled numberedChecked checked-one (checkedOf file s)

@@ -4,7 +4,7 @@ ghost use mathlib.Core.Path.{_≡_};
 ghost use Rattle.walk.specs.Walk.{Parted, cutRecord};
 ghost use Rattle.file.specs.Records.{recordsIn};
 ghost use Rattle.field.specs.Stage.{firstUnkind, fieldFault};
-ghost use Rattle.fields.specs.Check.{Ready, numberedChecked, checkedOf};
+ghost use Rattle.fields.specs.Check.{Ready, numberedChecked, CheckedIs};
 use field::admits_text;
 use field::kind_of;
 use file::Counted;
@@ -70,7 +70,7 @@ pub fn first_fault(file: u64, s: &[u8], n: usize) -> Checked
 
 // The first fault inside one file, read by itself: its own refusal, or its first 5 or 6.
 pub fn check_fields(file: u64, s: &[u8]) -> Checked
-    ensures { λ r. ⌜ numberedChecked r ≡ checkedOf file (now (s .entry)) ⌝ }
+    ensures { λ r. ⌜ CheckedIs file (now (s .entry)) r ⌝ }
 {
     match reader::records(file, s) {
         Counted::Refused(why) => Checked::Refused(why),

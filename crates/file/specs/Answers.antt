@@ -1,5 +1,6 @@
--- What the reader's calls come back with, and document 01's number and place for each case of an answer.
+-- What the reader's calls come back with, document 01's number and place for each case of an answer, and the promises.
 use Prim.Native.Nat.{ℕ, _+_, _-_, _*_}
+use mathlib.Core.Path.{_≡_}
 use mathlib.Core.List.{List, [], _∷_}
 use lib.Dec.{leb}
 use lib.ListN.{getD, length, take, drop}
@@ -75,3 +76,13 @@ stretchIn s (start ∷ size ∷ more) = take size (drop start s)
 
 abbrev pub textOf : ℕ → List ℕ → ℕ → ℕ → Text
 textOf file s r f = stretchIn s (stretchOf file s r f .values)
+
+-- the promises; that of a part of the file speaks of its bytes
+abbrev pub RecordsIs : ℕ → List ℕ → Counted → Type 0
+RecordsIs file s r = numberedCounted r ≡ recordsOf file s
+
+abbrev pub StretchIs : ℕ → List ℕ → ℕ → ℕ → Stretch → Type 0
+StretchIs file s r f x = numberedStretch x ≡ stretchOf file s r f
+
+abbrev pub PartIs : ℕ → List ℕ → ℕ → ℕ → Text → Type 0
+PartIs file s r f x = x ≡ textOf file s r f

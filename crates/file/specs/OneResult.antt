@@ -1,18 +1,14 @@
--- Each public call on a file is promised by an equation with document 01's number, place and values, and so allows one result only:
--- each case of an answer can be told back from what `numbered` gives for it. Then one line for each call of the reader and the
--- writer, on the predicate that its contract states.
+-- The numberings of the answers on a file tell all cases apart: each case can be told back from what `numbered` gives for it. So the promise of each
+-- call of the reader and the writer allows one result only (the table in the crate `determined`).
 use mathlib.Core.Path.{_≡_, refl}
 use mathlib.Core.Bool.{false}
-use mathlib.Core.List.{List}
 use Prim.Native.Nat.{ℕ}
 use lib.Dec.{eqb}
-use lib.ListN.{getD, length}
+use lib.ListN.{getD}
 use Rattle.laws.specs.Numbered.{Numbered}
-use Rattle.laws.specs.Settled.{Settled, OneToOne, told-back, settled, settled-self, settled-both}
+use Rattle.laws.specs.Settled.{OneToOne, told-back}
 use Rattle.laws.specs.Tests.{pick}
-use Rattle.file.specs.Answers.{numbered, numberedCounted, numberedStretch, numberedWritten, recordsOf, stretchOf, textOf}
-use Rattle.file.specs.Format.{Text}
-use Rattle.file.specs.Writing.{writtenOf, bufferOf}
+use Rattle.file.specs.Answers.{numbered, numberedCounted, numberedStretch, numberedWritten}
 use Rattle.file.specs.declared.Counted.{Counted}
 use Rattle.file.specs.declared.Refusal.{Refusal}
 use Rattle.file.specs.declared.Stretch.{Stretch}
@@ -87,22 +83,3 @@ stretch-one = told-back numberedStretch stretchAs stretch-told
 
 pub written-one : OneToOne numberedWritten
 written-one = told-back numberedWritten writtenAs written-told
-
--- the table: `records`, `stretch_of` and `stretch_part` of the reader, and `write` with the buffer that it was lent
-pub records-settled : (file : ℕ) (s : List ℕ) → Settled (λ (r : Counted). numberedCounted r ≡ recordsOf file s)
-records-settled file s = settled numberedCounted counted-one (recordsOf file s)
-
-pub stretch-of-settled : (file : ℕ) (s : List ℕ) (r f : ℕ) → Settled (λ (x : Stretch). numberedStretch x ≡ stretchOf file s r f)
-stretch-of-settled file s r f = settled numberedStretch stretch-one (stretchOf file s r f)
-
-pub stretch-part-settled : (file : ℕ) (s : List ℕ) (r f : ℕ) → Settled (λ (x : Text). x ≡ textOf file s r f)
-stretch-part-settled file s r f = settled-self (textOf file s r f)
-
-pub write-settled : (file f : ℕ) (t : Text) (d : List ℕ) (place : ℕ)
-    → Settled (λ (r : Written × List ℕ). (numberedWritten (r .0) ≡ writtenOf file f t (length d) place) × (r .1 ≡ bufferOf file f t d place))
-write-settled file f t d place =
-    settled-both
-    (λ (r : Written). numberedWritten r ≡ writtenOf file f t (length d) place)
-    (λ (b : List ℕ). b ≡ bufferOf file f t d place)
-    (settled numberedWritten written-one (writtenOf file f t (length d) place))
-    (settled-self (bufferOf file f t d place))

@@ -1,5 +1,6 @@
 -- Document 01, "Bytes of a file": the writer puts one field into the middle of a lent buffer.
 use Prim.Native.Nat.{ℕ, _+_}
+use mathlib.Core.Path.{_≡_}
 use mathlib.Core.List.{List, [], _∷_}
 use mathlib.Core.Bool.{Bool}
 use lib.Dec.{eqb, leb}
@@ -10,6 +11,8 @@ use Rattle.laws.specs.Numbered.{Numbered, answered, refused}
 use Rattle.file.specs.Bytes.{permittedText}
 use Rattle.file.specs.Format.{Text, writtenField}
 use Rattle.file.specs.Files.{among, isFile, fieldsOf}
+use Rattle.file.specs.Answers.{numberedWritten}
+use Rattle.file.specs.declared.Written.{Written}
 
 -- file has a field of this number
 unfoldable pub hasField : ℕ → ℕ → Bool
@@ -36,3 +39,8 @@ writtenOf file f t size place =
 unfoldable pub bufferOf : ℕ → ℕ → Text → List ℕ → ℕ → List ℕ
 bufferOf file f t d place =
     pick (both (hasField file f) (both (permittedText t) (fits (fieldBytes file f t) (length d) place))) (splice d place (fieldBytes file f t)) d
+
+-- the promise: the answer, and what the buffer d holds afterwards
+abbrev pub WriteIs : ℕ → ℕ → Text → List ℕ → ℕ → Written → List ℕ → Type 0
+WriteIs file f t d place r after =
+    (numberedWritten r ≡ writtenOf file f t (length d) place) × (after ≡ bufferOf file f t d place)

@@ -1,4 +1,5 @@
--- A promise that is an equation `numbered r ≡ answer` allows one result only, where `numbered` tells all results apart.
+-- A promise that is an equation `numbered r ≡ answer` allows one result only, where `numbered` tells all results apart. `settled` is the one law;
+-- the others are made of it.
 use mathlib.Core.Path.{_≡_, sym, ap, _∙_}
 
 -- any two results that the promise P allows are equal
@@ -12,8 +13,9 @@ OneToOne {A = A} f = (x y : A) → f x ≡ f y → x ≡ y
 pub settled : {A B : Type 0} (f : A → B) → OneToOne f → (answer : B) → Settled (λ (r : A). f r ≡ answer)
 settled f one answer x y p q = one x y (p ∙ sym q)
 
+-- a result that is given as it is
 pub settled-self : {A : Type 0} (answer : A) → Settled (λ (r : A). r ≡ answer)
-settled-self answer x y p q = p ∙ sym q
+settled-self {A = A} answer = settled (λ (r : A). r) (λ x y e. e) answer
 
 -- what can be told back from f, f tells apart
 pub told-back : {A B : Type 0} (f : A → B) (back : B → A) → ((x : A) → back (f x) ≡ x) → OneToOne f

@@ -8,7 +8,7 @@ ghost use lib.ListN.{length, drop};
 ghost use Rattle.file.specs.Bytes.{starts};
 ghost use Rattle.file.specs.Fields.{closing, nextField, aheadAt, aheadFrom, halt};
 ghost use Rattle.file.specs.Reader.{Classes, AheadNear, EndsNear, RecordAhead, Sought, OpensAt, Inside, textAfter, Reads, textIn};
-ghost use Rattle.file.specs.Answers.{numberedCounted, numberedStretch, recordsOf, stretchOf, textOf};
+ghost use Rattle.file.specs.Answers.{numberedStretch, RecordsIs, StretchIs, PartIs};
 ghost use Rattle.file.specs.Reading.{reading};
 use file::Ahead;
 use file::Counted;
@@ -184,7 +184,7 @@ fn text_of(s: &[u8], n: usize, k: u64, r: u64, f: u64) -> Stretch
 
 // The number of records of a file, or why it is refused.
 pub fn records(file: u64, s: &[u8]) -> Counted
-    ensures { λ r. ⌜ numberedCounted r ≡ recordsOf file (now (s .entry)) ⌝ }
+    ensures { λ r. ⌜ RecordsIs file (now (s .entry)) r ⌝ }
 {
     let n = fields_of(file);
     if n == 0 {
@@ -202,7 +202,7 @@ pub fn records(file: u64, s: &[u8]) -> Counted
 
 // inner: the stretch, and that it is inside the file.
 fn locate(file: u64, s: &[u8], r: u64, f: u64) -> Stretch
-    ensures { λ x. ⌜ (numberedStretch x ≡ stretchOf file (now (s .entry)) r f) × Inside (length (now (s .entry))) x ⌝ }
+    ensures { λ x. ⌜ StretchIs file (now (s .entry)) r f x × Inside (length (now (s .entry))) x ⌝ }
 {
     match records(file, s) {
         Counted::Refused(why) => Stretch::Refused(why),
@@ -212,14 +212,14 @@ fn locate(file: u64, s: &[u8], r: u64, f: u64) -> Stretch
 
 // Where field f of record r stands, or why it is refused; both count from 1.
 pub fn stretch_of(file: u64, s: &[u8], r: u64, f: u64) -> Stretch
-    ensures { λ x. ⌜ numberedStretch x ≡ stretchOf file (now (s .entry)) r f ⌝ }
+    ensures { λ x. ⌜ StretchIs file (now (s .entry)) r f x ⌝ }
 {
     locate(file, s, r, f)
 }
 
 // That very part of the file; an empty one with any refusal.
 pub fn stretch_part(file: u64, s: &[u8], r: u64, f: u64) -> &[u8]
-    ensures { λ x. ⌜ now x ≡ textOf file (now (s .entry)) r f ⌝ }
+    ensures { λ x. ⌜ PartIs file (now (s .entry)) r f (now x) ⌝ }
 {
     match locate(file, s, r, f) {
         Stretch::At(start, size) => {

@@ -7,8 +7,7 @@ ghost use lib.ListN.{length};
 ghost use Rattle.laws.specs.Splice.{splice};
 ghost use Rattle.file.specs.Bytes.{quote, permittedText};
 ghost use Rattle.file.specs.Format.{ending, writtenField};
-ghost use Rattle.file.specs.Writing.{hasField, writtenOf, bufferOf};
-ghost use Rattle.file.specs.Answers.{numberedWritten};
+ghost use Rattle.file.specs.Writing.{hasField, WriteIs};
 use file::Refusal;
 use file::Written;
 use file::classes;
@@ -73,7 +72,7 @@ fn has_field(file: u64, field: u64) -> bool
 
 // Lays the text as field `field` of a record of file `file` from `place` on, and answers the place after it.
 pub fn write(file: u64, field: u64, text: &[u8], d: &mut [u8], place: u64) -> Written
-    ensures { λ r. ⌜ (numberedWritten r ≡ writtenOf file field (now (text .entry)) (length (now (d .entry))) place) × (now (d .exit) ≡ bufferOf file field (now (text .entry)) (now (d .entry)) place) ⌝ }
+    ensures { λ r. ⌜ WriteIs file field (now (text .entry)) (now (d .entry)) place r (now (d .exit)) ⌝ }
 {
     if !has_field(file, field) {
         return Written::Refused(Refusal::NoSuch);

@@ -1,21 +1,23 @@
 -- `calls::answer_halt` meets its contract: the walk comes to the nth stop's record, or to the end of the file.
 use borrow.Author.Needs.{needs}
 use denote.Ref.{now}
+use Rattle.file.specs.Answers.{numbered}
 use Rattle.file.specs.Files.{fieldsOf}
 use Rattle.file.specs.Records.{recordsIn}
+use Rattle.fault.specs.Answers.{numberedFault}
 use Rattle.calls.specs.Numbers.{numberedStop}
 use Rattle.calls.proofs.CallsLaws.{nth-zero, nth-none, nth-there}
 use Rattle.calls.proofs.answer_halt.Statement.{statement}
 use Rattle.calls.proofs.answer_halt.Tie as tie
 
 returns : tie.Need-returns
-unfolding numberedStop
+unfolding numberedStop numberedFault numbered
 returns c =
     let a = c .before .before .before .before .before .before .args in
     nth-zero (recordsIn (fieldsOf 3) (now (a .f3))) (recordsIn (fieldsOf 7) (now (a .f7))) (recordsIn (fieldsOf 8) (now (a .f8))) (a .line) (a .trip) (a .n) (c .if1 .taken)
 
 returns-2 : tie.Need-returns-2
-unfolding numberedStop
+unfolding numberedStop numberedFault numbered
 returns-2 c =
     let w = c .before in
     let e = w .before in

@@ -1,0 +1,39 @@
+-- Each row holds by `settled` of laws: the promise is an equation with a numbering that tells all cases of the answer apart. A part's bytes and a
+-- buffer's are given as they are.
+use mathlib.Core.List.{List}
+use lib.ListN.{length}
+use Rattle.laws.specs.Settled.{settled, settled-self, settled-both}
+use Rattle.calendar.specs.Answers.{numberedDay, numberedDate, numberedWeekday, numberedWeek, numberedWhether, dayAnswer, dateAnswer, weekdayAnswer, weekAnswer, holidayAnswer, fitsAnswer}
+use Rattle.calendar.specs.OneResult.{day-one, date-one, weekday-one, week-one, whether-one}
+use Rattle.file.specs.Answers.{numberedCounted, numberedStretch, numberedWritten, recordsOf, stretchOf, textOf}
+use Rattle.file.specs.OneResult.{counted-one, stretch-one, written-one}
+use Rattle.file.specs.Writing.{writtenOf, bufferOf}
+use Rattle.fields.specs.Check.{numberedChecked, checkedOf}
+use Rattle.fields.specs.OneResult.{checked-one}
+use Rattle.batch.specs.OneResult.{verdict-one}
+use Rattle.batch.specs.Verdicts.{numberedVerdict, verdictOf}
+use Rattle.counter.specs.Answers.{runsAnswer}
+use Rattle.counter.specs.Numbers.{numberedRuns}
+use Rattle.counter.specs.OneResult.{runs-one}
+use Rattle.calls.specs.Answers.{stopAnswer}
+use Rattle.calls.specs.Numbers.{numberedStop}
+use Rattle.calls.specs.OneResult.{stop-one}
+use Rattle.determined.specs.Table.{Determined}
+
+pub determined : Determined
+determined = record {
+  day-of = λ d m y. settled numberedDay day-one (dayAnswer d m y);
+  date-of = λ n. settled numberedDate date-one (dateAnswer n);
+  weekday-of = λ n. settled numberedWeekday weekday-one (weekdayAnswer n);
+  week-of = λ n. settled numberedWeek week-one (weekAnswer n);
+  holiday = λ n holidays. settled numberedWhether whether-one (holidayAnswer n holidays);
+  fits = λ sign n holidays. settled numberedWhether whether-one (fitsAnswer sign n holidays);
+  records = λ file s. settled numberedCounted counted-one (recordsOf file s);
+  stretch-of = λ file s r f. settled numberedStretch stretch-one (stretchOf file s r f);
+  stretch-part = λ file s r f. settled-self (textOf file s r f);
+  write = λ file f t d place. settled-both _ _ (settled numberedWritten written-one (writtenOf file f t (length d) place)) (settled-self (bufferOf file f t d place));
+  check-fields = λ file s. settled numberedChecked checked-one (checkedOf file s);
+  check = λ b. settled numberedVerdict verdict-one (verdictOf b);
+  runs = λ b line trip d holidays. settled numberedRuns runs-one (runsAnswer b line trip d holidays);
+  trip-stop = λ b line trip n. settled numberedStop stop-one (stopAnswer b line trip n);
+}

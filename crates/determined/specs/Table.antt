@@ -1,0 +1,36 @@
+-- One row for each public call: any two results that its promise allows are equal. A row is stated on the predicate that the call's contract cites.
+-- `determined` (proofs/Rows.antt): all rows hold, by one law.
+use Prim.Native.Nat.{ℕ}
+use mathlib.Core.List.{List}
+use Rattle.laws.specs.Settled.{Settled}
+use Rattle.calendar.specs.Answers.{DayIs, DateIs, WeekdayIs, WeekIs, HolidayIs, FitsIs}
+use Rattle.file.specs.Answers.{RecordsIs, StretchIs, PartIs}
+use Rattle.file.specs.Format.{Text}
+use Rattle.file.specs.Writing.{WriteIs}
+use Rattle.file.specs.declared.Written.{Written}
+use Rattle.thirteen.specs.Batch.{Batch}
+use Rattle.fields.specs.Check.{CheckedIs}
+use Rattle.batch.specs.Verdicts.{VerdictIs}
+use Rattle.counter.specs.Numbers.{RunsIs}
+use Rattle.calls.specs.Numbers.{StopIs}
+
+pub record Determined : Type 0 where
+  -- the calendar
+  pub day-of : (d m y : ℕ) → Settled (DayIs d m y)
+  pub date-of : (n : ℕ) → Settled (DateIs n)
+  pub weekday-of : (n : ℕ) → Settled (WeekdayIs n)
+  pub week-of : (n : ℕ) → Settled (WeekIs n)
+  pub holiday : (n : ℕ) (holidays : List ℕ) → Settled (HolidayIs n holidays)
+  pub fits : (sign n : ℕ) (holidays : List ℕ) → Settled (FitsIs sign n holidays)
+  -- the reader; of a part of the file, its bytes
+  pub records : (file : ℕ) (s : List ℕ) → Settled (RecordsIs file s)
+  pub stretch-of : (file : ℕ) (s : List ℕ) (r f : ℕ) → Settled (StretchIs file s r f)
+  pub stretch-part : (file : ℕ) (s : List ℕ) (r f : ℕ) → Settled (PartIs file s r f)
+  -- the writer: its answer, and what the lent buffer holds afterwards
+  pub write : (file f : ℕ) (t : Text) (d : List ℕ) (place : ℕ) → Settled (λ (r : Written × List ℕ). WriteIs file f t d place (r .0) (r .1))
+  -- the checks of one file and of a batch
+  pub check-fields : (file : ℕ) (s : List ℕ) → Settled (CheckedIs file s)
+  pub check : (b : Batch) → Settled (VerdictIs b)
+  -- the questions
+  pub runs : (b : Batch) (line trip d : ℕ) (holidays : List ℕ) → Settled (RunsIs b line trip d holidays)
+  pub trip-stop : (b : Batch) (line trip n : ℕ) → Settled (StopIs b line trip n)

@@ -18,6 +18,7 @@ use Rattle.counter.specs.OneResult.{runs-one}
 use Rattle.calls.specs.Answers.{stopAnswer}
 use Rattle.calls.specs.Numbers.{numberedStop}
 use Rattle.calls.specs.OneResult.{stop-one}
+use Rattle.fileresults.specs.Results.{writeResult}
 use Rattle.determined.specs.Table.{Determined}
 
 pub determined : Determined
@@ -36,4 +37,19 @@ determined = record {
   check = λ b. settled numberedVerdict verdict-one (verdictOf b);
   runs = λ b line trip d holidays. settled numberedRuns runs-one (runsAnswer b line trip d holidays);
   trip-stop = λ b line trip n. settled numberedStop stop-one (stopAnswer b line trip n);
+  slovdrim-day = λ d m y. settled-self _;
+  slovdrim-date = λ n. settled-self _;
+  slovdrim-weekday = λ n. settled-self _;
+  slovdrim-week = λ n. settled-self _;
+  slovdrim-holiday = λ n holidays. settled-self _;
+  slovdrim-fits = λ sign n holidays. settled-self _;
+  slovdrim-records = λ file s. settled-self _;
+  slovdrim-stretch = λ file s row f. settled-self _;
+  slovdrim-write = λ file f t d place. settled-both _ _ (settled-self (writeResult (writtenOf file f t (length d) place))) (settled-self (bufferOf file f t d place));
+  slovdrim-fields = λ file s. settled-self _;
+  slovdrim-check = λ b. settled-self _;
+  slovdrim-check-hinted = λ b. settled-self _;
+  slovdrim-runs = λ b line trip d holidays. settled-self _;
+  slovdrim-trip-stop = λ b line trip n. settled-self _;
+  slovdrim-version = settled-self _;
 }

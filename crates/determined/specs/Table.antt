@@ -13,6 +13,11 @@ use Rattle.fields.specs.Check.{CheckedIs}
 use Rattle.batch.specs.Verdicts.{VerdictIs}
 use Rattle.counter.specs.Numbers.{RunsIs}
 use Rattle.calls.specs.Numbers.{StopIs}
+use Rattle.fileresults.specs.Results.{RecordsGives, StretchGives, WriteGives}
+use Rattle.dayresults.specs.Results.{DayGives, DateGives, WeekdayGives, WeekGives, HolidayGives, FitsGives}
+use Rattle.checkresults.specs.Results.{FieldsGives, CheckGives}
+use Rattle.tripresults.specs.Results.{RunsGives, TripStopGives}
+use Rattle.slovdrim.specs.Version.{VersionGives}
 
 pub record Determined : Type 0 where
   -- the calendar
@@ -34,3 +39,19 @@ pub record Determined : Type 0 where
   -- the questions
   pub runs : (b : Batch) (line trip d : ℕ) (holidays : List ℕ) → Settled (RunsIs b line trip d holidays)
   pub trip-stop : (b : Batch) (line trip n : ℕ) → Settled (StopIs b line trip n)
+  -- the same calls for C; a hinted one promises what the plain one does, whatever list it is lent
+  pub slovdrim-day : (d m y : ℕ) → Settled (DayGives d m y)
+  pub slovdrim-date : (n : ℕ) → Settled (DateGives n)
+  pub slovdrim-weekday : (n : ℕ) → Settled (WeekdayGives n)
+  pub slovdrim-week : (n : ℕ) → Settled (WeekGives n)
+  pub slovdrim-holiday : (n : ℕ) (holidays : List ℕ) → Settled (HolidayGives n holidays)
+  pub slovdrim-fits : (sign n : ℕ) (holidays : List ℕ) → Settled (FitsGives sign n holidays)
+  pub slovdrim-records : (file : ℕ) (s : List ℕ) → Settled (RecordsGives file s)
+  pub slovdrim-stretch : (file : ℕ) (s : List ℕ) (row f : ℕ) → Settled (StretchGives file s row f)
+  pub slovdrim-write : (file f : ℕ) (t : Text) (d : List ℕ) (place : ℕ) → Settled (WriteGives file f t d place)
+  pub slovdrim-fields : (file : ℕ) (s : List ℕ) → Settled (FieldsGives file s)
+  pub slovdrim-check : (b : Batch) → Settled (CheckGives b)
+  pub slovdrim-check-hinted : (b : Batch) → Settled (CheckGives b)
+  pub slovdrim-runs : (b : Batch) (line trip d : ℕ) (holidays : List ℕ) → Settled (RunsGives b line trip d holidays)
+  pub slovdrim-trip-stop : (b : Batch) (line trip n : ℕ) → Settled (TripStopGives b line trip n)
+  pub slovdrim-version : Settled VersionGives

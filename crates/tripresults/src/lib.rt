@@ -104,7 +104,6 @@ pub fn stop_handed(answer: Stop) -> TripStopResult
             no_stop(p.number, p.file, p.record, p.field, p.offset)
         }
         Stop::NoTrip => no_stop(13, 0, 0, 0, 0),
-        Stop::NoStop => no_stop(20, 0, 0, 0, 0),
         Stop::Is(halt) => TripStopResult {
             number: 0,
             file: 0,

@@ -20,12 +20,8 @@ unfolding numberedStop stopResult
 returns-2 c = rw (c .before .enum-told .given .1) (c .no-stop2 .ensures)
 
 returns-3 : tie.Need-returns-3
-unfolding numberedStop stopResult
-returns-3 c = rw (c .before .enum-told2 .given .1) (c .no-stop3 .ensures)
-
-returns-4 : tie.Need-returns-4
 unfolding numberedStop stopResult haltNumbers
-returns-4 c = rw (c .before .answer2 .given .1)
+returns-3 c = rw (c .before .answer2 .given .1)
 
 pub stop-handed-spec : {M : Type 1} → statement M
 stop-handed-spec =
@@ -36,10 +32,7 @@ stop-handed-spec =
     (λ c κs. search needs)  -- no-stop-requires
     (λ c. search needs)  -- enum-told
     (λ c κs. search needs)  -- no-stop-requires-2
-    (λ c. search needs)  -- enum-told-2
-    (λ c κs. search needs)  -- no-stop-requires-3
     (λ c. search needs)  -- enum-known-answer-2
     returns
     returns-2
-    returns-3
-    returns-4)
+    returns-3)

@@ -1,5 +1,5 @@
--- A promise that is an equation `numbered r ≡ answer` allows one result only, where `numbered` tells all results apart. `settled` is the one law;
--- the others are made of it.
+-- A promise that is an equation `numbered r ≡ answer` allows one result only, where `numbered` tells all results apart: `settled`, the one law.
+-- `settled-self` is that law for a result with no numbering, and `settled-both` puts two together.
 use mathlib.Core.Path.{_≡_, sym, ap, _∙_}
 
 -- any two results that the promise P allows are equal
@@ -13,7 +13,6 @@ OneToOne {A = A} f = (x y : A) → f x ≡ f y → x ≡ y
 pub settled : {A B : Type 0} (f : A → B) → OneToOne f → (answer : B) → Settled (λ (r : A). f r ≡ answer)
 settled f one answer x y p q = one x y (p ∙ sym q)
 
--- a result that is given as it is
 pub settled-self : {A : Type 0} (answer : A) → Settled (λ (r : A). r ≡ answer)
 settled-self {A = A} answer = settled (λ (r : A). r) (λ x y e. e) answer
 

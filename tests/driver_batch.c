@@ -14,6 +14,8 @@ static struct lent files[FILES], order;
 
 struct batch batch;
 
+_Static_assert(sizeof(slovdrim_check_answer) / 8 <= WORDS, "an answer has room");
+
 const uint8_t *placed_at(const struct lent *l, enum placing where)
 {
     return lent_at(l, where != NOWHERE ? where : l->length == 0 ? NOWHERE : AT_END);

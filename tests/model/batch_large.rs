@@ -9,6 +9,7 @@ use crate::fields::name_of;
 use crate::format::{writing, LONGEST};
 use crate::hints::KINDS;
 use crate::link::{Call, Link};
+use crate::links::verdict;
 use crate::maker::Maker;
 
 fn large_sizes(file: usize, count: usize) -> Sizes {
@@ -68,7 +69,7 @@ pub fn large_files(link: &mut Link) {
 }
 
 /// Udaje of exactly so many bytes, its keys rising.
-fn udaje_of_length(line: u64, length: usize) -> Vec<u8> {
+pub fn udaje_of_length(line: u64, length: usize) -> Vec<u8> {
     let record = |n: usize, text: usize| writing(&[vec![line_text(line), format!("{:09}", n).into_bytes(), vec![0xec; text]]]);
     let (around, full) = (record(0, 0).len(), record(0, 254).len());
     let mut bytes = Vec::with_capacity(length);
@@ -118,5 +119,6 @@ pub fn longest(link: &mut Link) {
     a.lend(&b.bytes());
     a.lend_hint(&hint);
     a.link.letter(b'k');
-    a.link.expect(Call::Check { batch: Arc::new(b.bytes()), huge: None, hint: Arc::new(hint), kind: KINDS[9], ways: Arc::new(Vec::new()) }, &FINE);
+    let words = verdict(&b.bytes(), FINE);
+    a.link.expect(Call::Check { batch: Arc::new(b.bytes()), huge: None, hint: Arc::new(hint), kind: KINDS[9], ways: Arc::new(Vec::new()) }, &words);
 }

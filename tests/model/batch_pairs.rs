@@ -1,5 +1,7 @@
 //! Two faults in one batch: the order of the refusals 1 to 11.
 
+use std::collections::BTreeMap;
+
 use crate::asker::{Asked, Asker};
 use crate::batch_faults::{apart, fault, files_for, finish, rank, Fault, Words};
 use crate::batches::{Batch, ORDERS, SMALL};
@@ -29,39 +31,60 @@ fn pair_name(first: &Words, second: &Words) -> String {
     format!("{} before {}, {}", first[0], second[0], relation(first, second))
 }
 
-/// Two faults in one batch, of all numbers and in all places to each other.
+/// A fault of each of two numbers, in one record, in one file or anywhere, where they leave each other alone.
+pub fn pair(m: &mut Maker, b: &Batch, one: u64, two: u64) -> Option<(Fault, Fault)> {
+    let files = files_for(one);
+    let file = files[m.r.below(files.len())];
+    let first = fault(m, b, one, file, None)?;
+    // in the same record if there is a way, in the same file, or anywhere
+    let files = files_for(two);
+    let near = m.r.below(3);
+    let second = if near < 2 && files.contains(&file) {
+        fault(m, b, two, file, if near == 0 { row_of(&first) } else { None })
+    } else {
+        let other = files[m.r.below(files.len())];
+        fault(m, b, two, other, None)
+    }?;
+    if apart(&first, &second) {
+        Some((first, second))
+    } else {
+        None
+    }
+}
+
+/// How often each pair is asked.
+const EACH: u64 = 5;
+
+/// Two faults in one batch, of all numbers and in all places to each other: batches are made until each pair has been asked so many times.
 pub fn two_faults(link: &mut Link) {
     let mut m = Maker::new(63);
     let mut a = Asker::new(link, 42);
-    for i in 0..3000 {
+    let mut left: BTreeMap<String, u64> = pairs().into_iter().map(|name| (name, EACH)).collect();
+    for i in 0..60_000 {
+        if left.is_empty() {
+            break;
+        }
         let b = Batch::arranged(&mut m, &SMALL, ORDERS[i % 5]);
-        // half of the pairs are of keys, links, signs and trips alone
-        let (least, many) = if i % 2 == 0 { (7, 5) } else { (1, 11) };
-        let (one, two) = ((least + m.r.below(many)) as u64, (least + m.r.below(many)) as u64);
-        let files = files_for(one);
-        let file = files[m.r.below(files.len())];
-        let first = match fault(&mut m, &b, one, file, None) {
-            Some(f) => f,
-            None => continue,
-        };
-        // in the same record if there is a way, in the same file, or anywhere
-        let files = files_for(two);
-        let near = m.r.below(3);
-        let second = if near < 2 && files.contains(&file) {
-            fault(&mut m, &b, two, file, if near == 0 { row_of(&first) } else { None })
-        } else {
-            let other = files[m.r.below(files.len())];
-            fault(&mut m, &b, two, other, None)
-        };
-        let second = match second {
-            Some(f) if apart(&first, &f) => f,
-            _ => continue,
-        };
-        let mut bytes = b.bytes();
-        let mut both = [finish(&mut bytes, &first), finish(&mut bytes, &second)];
-        both.sort_by_key(rank);
-        let name = pair_name(&both[0], &both[1]);
-        a.ask_faults(&b, &[&first, &second], None, &[name], Asked::Some(6));
+        // many pairs out of one batch
+        for _ in 0..20 {
+            let (one, two) = (1 + m.r.below(11) as u64, 1 + m.r.below(11) as u64);
+            let (first, second) = match pair(&mut m, &b, one, two) {
+                Some(both) => both,
+                None => continue,
+            };
+            let mut bytes = b.bytes();
+            let mut both = [finish(&mut bytes, &first), finish(&mut bytes, &second)];
+            both.sort_by_key(rank);
+            let name = pair_name(&both[0], &both[1]);
+            let n = left.get(&name).copied().unwrap_or(0);
+            if n == 0 {
+                continue;
+            }
+            left.insert(name.clone(), n - 1);
+            left.retain(|_, n| *n > 0);
+            a.ask_faults(&b, &[&first, &second], None, &[name], Asked::Some(3));
+            break;
+        }
     }
 }
 

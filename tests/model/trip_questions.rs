@@ -150,7 +150,7 @@ fn numbers(r: &mut Random, count: usize, end: usize) -> Vec<u64> {
 }
 
 /// Trips that stand, on two lines that share their numbers: 0, odd ones and even ones. Each has so many stops, with a timetable and no days.
-fn plans(m: &mut Maker, count: usize, stops: usize, days: (usize, usize)) -> Vec<Plan> {
+pub fn plans(m: &mut Maker, count: usize, stops: usize, days: (usize, usize)) -> Vec<Plan> {
     let (lines, places) = (numbers(&mut m.r, 2, 1_000_000), numbers(&mut m.r, 3, 1_000_000_000));
     let mut trips = numbers(&mut m.r, count, 1_000_000_000);
     if m.r.one_in(3) && !trips.contains(&0) {

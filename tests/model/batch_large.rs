@@ -56,14 +56,14 @@ pub fn large_files(link: &mut Link) {
     let mut m = Maker::new(43);
     let mut a = Asker::new(link, 43);
     for file in 2..=13 {
-        one_large(&mut a, &mut m, file, 2500, Order::Rising, Asked::Some(3), Asked::Right);
-        one_large(&mut a, &mut m, file, 2500, Order::Shuffled, Asked::Right, Asked::Right);
-        one_large(&mut a, &mut m, file, 400, ORDERS[file as usize % 5], Asked::Some(3), Asked::Some(1));
+        one_large(&mut a, &mut m, file, 1500, Order::Rising, Asked::Some(1), Asked::Right);
+        one_large(&mut a, &mut m, file, 1500, Order::Shuffled, Asked::Right, Asked::Right);
+        one_large(&mut a, &mut m, file, 250, ORDERS[file as usize % 5], Asked::Some(3), Asked::Some(1));
     }
     for order in [Order::Rising, Order::Shuffled, Order::Falling] {
-        let sizes = [0, 1, 1500, 1500, 1500, 1500, 1500, 1500, 3000, 1500, 1500, 1500, 1500, 1500];
+        let sizes = [0, 1, 800, 800, 800, 800, 800, 800, 1600, 800, 800, 800, 800, 800];
         let b = Batch::arranged(&mut m, &sizes, order);
-        a.ask_batch(&b, FINE, &way("all files large"), if order == Order::Rising { Asked::Some(3) } else { Asked::Right });
+        a.ask_batch(&b, FINE, &way("all files large"), if order == Order::Rising { Asked::Some(1) } else { Asked::Right });
         a.link.flush();
     }
 }

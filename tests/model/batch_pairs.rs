@@ -1,11 +1,11 @@
 //! Two faults in one batch: the order of the refusals 1 to 11.
 
-use std::collections::BTreeMap;
-
 use crate::asker::{Asked, Asker};
-use crate::batch_faults::{apart, fault, files_for, finish, rank, Fault, Words};
+use crate::batch_faults::{apart, fault, files_for, rank, Fault, Words};
 use crate::batches::{Batch, ORDERS, SMALL};
+use crate::format::{ENDS_INSIDE, NOT_LEGAL, TOO_LONG};
 use crate::link::Link;
+use crate::links::WRONG_VERSION;
 use crate::maker::Maker;
 
 fn row_of(fault: &Fault) -> Option<usize> {
@@ -27,8 +27,28 @@ fn relation(first: &Words, second: &Words) -> &'static str {
     }
 }
 
-fn pair_name(first: &Words, second: &Words) -> String {
-    format!("{} before {}, {}", first[0], second[0], relation(first, second))
+/// Two refusals of one batch, the one that is answered first, and how they stand to each other.
+type Pair = (u64, u64, &'static str);
+
+fn pair_name((first, second, relation): Pair) -> String {
+    format!("{} before {}, {}", first, second, relation)
+}
+
+/// The refusal that a fault leads to, but for the offset.
+fn refusal(fault: &Fault) -> Words {
+    match fault {
+        Fault::Edits { want, .. } => *want,
+        Fault::Version(_) => [WRONG_VERSION, 1, 0, 0, 0],
+        Fault::Byte { file, .. } => [NOT_LEGAL, *file, 0, 0, 0],
+        Fault::Cut { file, .. } => [ENDS_INSIDE, *file, 0, 0, 0],
+        Fault::Huge { file, .. } => [TOO_LONG, *file, 0, 0, 0],
+    }
+}
+
+fn pair_of(one: &Fault, other: &Fault) -> Pair {
+    let mut both = [refusal(one), refusal(other)];
+    both.sort_by_key(rank);
+    (both[0][0], both[1][0], relation(&both[0], &both[1]))
 }
 
 /// A fault of each of two numbers, in one record, in one file or anywhere, where they leave each other alone.
@@ -53,48 +73,50 @@ pub fn pair(m: &mut Maker, b: &Batch, one: u64, two: u64) -> Option<(Fault, Faul
 }
 
 /// How often each pair is asked.
-const EACH: u64 = 5;
+const EACH: usize = 5;
 
-/// Two faults in one batch, of all numbers and in all places to each other: batches are made until each pair has been asked so many times.
+/// Two faults of this pair in a batch; none if it gives no way to them, as far as it was tried.
+fn find(m: &mut Maker, b: &Batch, wanted: Pair) -> Option<(Fault, Fault)> {
+    let (first, second, _) = wanted;
+    for i in 0..40 {
+        let (one, two) = if i % 2 == 0 { (first, second) } else { (second, first) };
+        match pair(m, b, one, two) {
+            Some((one, other)) if pair_of(&one, &other) == wanted => return Some((one, other)),
+            _ => (),
+        }
+    }
+    None
+}
+
+/// Two faults in one batch, of all numbers and in all places to each other.
 pub fn two_faults(link: &mut Link) {
     let mut m = Maker::new(63);
     let mut a = Asker::new(link, 42);
-    let mut left: BTreeMap<String, u64> = pairs().into_iter().map(|name| (name, EACH)).collect();
-    for i in 0..60_000 {
-        if left.is_empty() {
-            break;
-        }
-        let b = Batch::arranged(&mut m, &SMALL, ORDERS[i % 5]);
-        // many pairs out of one batch
-        for _ in 0..20 {
-            let (one, two) = (1 + m.r.below(11) as u64, 1 + m.r.below(11) as u64);
-            let (first, second) = match pair(&mut m, &b, one, two) {
-                Some(both) => both,
-                None => continue,
-            };
-            let mut bytes = b.bytes();
-            let mut both = [finish(&mut bytes, &first), finish(&mut bytes, &second)];
-            both.sort_by_key(rank);
-            let name = pair_name(&both[0], &both[1]);
-            let n = left.get(&name).copied().unwrap_or(0);
-            if n == 0 {
-                continue;
+    for wanted in pairs() {
+        for i in 0..EACH {
+            // what is never found is never met, and the run says so
+            for _ in 0..200 {
+                let b = Batch::arranged(&mut m, &SMALL, ORDERS[i % 5]);
+                if let Some((one, other)) = find(&mut m, &b, wanted) {
+                    a.ask_faults(&b, &[&one, &other], None, &[pair_name(wanted)], Asked::Some(3));
+                    break;
+                }
             }
-            left.insert(name.clone(), n - 1);
-            left.retain(|_, n| *n > 0);
-            a.ask_faults(&b, &[&first, &second], None, &[name], Asked::Some(3));
-            break;
         }
     }
 }
 
+pub fn pair_names() -> Vec<String> {
+    pairs().into_iter().map(pair_name).collect()
+}
+
 /// Every pair of refusals that can stand in one batch, the one that is answered first, in every way of standing to each other.
-pub fn pairs() -> Vec<String> {
+fn pairs() -> Vec<Pair> {
     let stage = |n: u64| rank(&[n, 2, 1, 1, 0])[0];
     let mut all = Vec::new();
     for first in 1..=11u64 {
         for second in 1..=11u64 {
-            let relations: &[&str] = match (first, second) {
+            let relations: &[&'static str] = match (first, second) {
                 _ if stage(first) > stage(second) => &[],
                 (1, 1) => &["later file"],
                 (4, 4) => &[],
@@ -110,7 +132,7 @@ pub fn pairs() -> Vec<String> {
                 _ if stage(first) == stage(second) => &["later record", "later file"],
                 _ => &["earlier file", "same file", "later file"],
             };
-            all.extend(relations.iter().map(|r| format!("{} before {}, {}", first, second, r)));
+            all.extend(relations.iter().map(|r| (first, second, *r)));
         }
     }
     all

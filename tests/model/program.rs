@@ -8,7 +8,7 @@ use std::process::{Command, Stdio};
 
 use crate::batch_faults::{key_used, to_nothing, Words, FINE};
 use crate::batch_large::udaje_of_length;
-use crate::batch_met::{batches, Met};
+use crate::batch_met::{batches, places, Met};
 use crate::batches::{line_text, Batch};
 use crate::cases::{self, Case};
 use crate::fields::{name_of, NOT_OF_ITS_KIND};
@@ -321,7 +321,7 @@ pub fn told(report: &mut Report) {
     println!("  {} batches", asked);
     let by_number = [0].into_iter().chain(2..=11).map(|n| (n.to_string(), batches(report, n, None, None)));
     met.line("batches by number", by_number.chain([("TOO LARGE".to_string(), batches(report, 99, None, None))]).collect());
-    crate::whole::places(&mut met, report);
+    places(&mut met, report);
     let mut wanted = crate::whole::ways();
     wanted.push("the samples".to_string());
     wanted.extend(["accepted at the limit", "refused at the limit", "too large", "all files alike"].iter().map(|w| format!("sizes: {}", w)));

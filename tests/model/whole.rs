@@ -1,9 +1,7 @@
 //! The check of whole batches by seed, by the plain call and with hints, and what a run of it must have met.
 
 use crate::asker::{Asked, Asker};
-use crate::batch_faults::{files_for, linked_fields};
-use crate::batch_met::{batches, Met};
-use crate::batches::code_fields;
+use crate::batch_met::{batches, places, Met};
 use crate::cases::{self, Case, Each};
 use crate::fields::{fields_of_file, kind_names, name_of, rule_names};
 use crate::link::{Link, Report};
@@ -27,7 +25,7 @@ pub fn valid(link: &mut Link) {
 }
 
 pub fn damaged_once(link: &mut Link) {
-    ask_each(link, 72, |m, each| cases::damaged_once(m, 3, each));
+    ask_each(link, 72, |m, each| cases::damaged_once(m, 4, each));
 }
 
 pub fn damaged_twice(link: &mut Link) {
@@ -65,20 +63,6 @@ pub fn ways() -> Vec<String> {
     all.extend(STOP_RULE_NAMES.iter().filter(|&&n| n != FIRST_LEAVES).map(|name| format!("11 alone: {}", name)));
     all.push(format!("11 beside others: {}", FIRST_LEAVES));
     all
-}
-
-/// How often each file's 5, each file's 7, and 8 and 9 at each linked field were met.
-pub fn places(met: &mut Met, report: &Report) {
-    for number in [5, 7] {
-        let counts = files_for(number).iter().map(|&f| (name_of(f).to_string(), batches(report, number, Some(f), None))).collect();
-        met.line(&format!("batches with {} by file", number), counts);
-    }
-    for (number, fields) in [(8, linked_fields as fn(u64) -> Vec<usize>), (9, code_fields)] {
-        for file in files_for(number) {
-            let counts = fields(file).iter().map(|&f| (f.to_string(), batches(report, number, Some(file), Some(f as u64)))).collect();
-            met.line(&format!("batches with {} in {} at field", number, name_of(file)), counts);
-        }
-    }
 }
 
 pub fn told(report: &mut Report) {

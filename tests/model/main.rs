@@ -1,7 +1,7 @@
 //! An independent implementation of document 01, "The batch", "Bytes of a file", "Fields", "Days" and "A trip's stops", and its comparison with the library.
 //!
 //!     model compare files|days|fields|links|trips|whole DRIVER ARGUMENTS..   ask the driver everything and compare
-//!     model program FOLDER PROGRAM ARGUMENTS..                               run the check program on batches in this folder, which is emptied, and compare
+//!     model program FOLDER PROGRAM ARGUMENTS..                               run the check program on batches in this folder, which it makes, and compare
 //!     model almanac                                                          every day of the model's own calendar, a line each
 //!     model samples FOLDER                                                   whether the model accepts each file of a batch, read by itself
 //!

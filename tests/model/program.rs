@@ -274,7 +274,7 @@ fn errors(f: &mut Folder, m: &mut Maker) {
         let bytes = cases::standing(m).bytes();
         f.lay(&bytes);
         let _ = fs::remove_file(f.place(file));
-        symlink(f.place(file), f.place(file)).expect("a link can be made");
+        symlink(format!("{}.txt", name_of(file)), f.place(file)).expect("a link can be made");
         f.ask_error(&bytes, format!("error, a link to itself: {}", name_of(file)));
     }
     if reads_all(f) {
@@ -290,6 +290,10 @@ fn errors(f: &mut Folder, m: &mut Maker) {
 }
 
 pub fn compare(folder: &str, command: &[String]) -> Report {
+    if PathBuf::from(folder).exists() {
+        eprintln!("{} is there already, and what it holds would be lost", folder);
+        std::process::exit(2);
+    }
     let mut f = Folder { path: PathBuf::from(folder), command, report: Report::default(), empty: false };
     let mut m = Maker::new(77);
     let began = std::time::Instant::now();
@@ -312,6 +316,7 @@ pub fn compare(folder: &str, command: &[String]) -> Report {
         step(&mut f, &mut m);
         println!("{}: {} compared, {:.1} s", name, f.report.comparisons - before, began.elapsed().as_secs_f64());
     }
+    fs::remove_dir_all(&f.path).expect("the folder can be removed");
     f.report
 }
 

@@ -249,12 +249,17 @@ typedef struct {
     uint64_t record;
     uint64_t field;
     uint64_t offset;
+    uint64_t stops;
+    uint64_t lines;
+    uint64_t trips;
+    uint64_t trip_stops;
 } slovdrim_check_answer;
 
 /*
- * The first fault of a batch. The thirteen files are lent in their fixed order; a missing file is an empty one.
+ * The first fault of a batch, or what the batch holds. The thirteen files are lent in their fixed order; a missing file is an empty one.
  *
- *   SLOVDRIM_ANSWER              there is none: the batch stands.
+ *   SLOVDRIM_ANSWER              there is no fault: the batch stands. `stops`, `lines`, `trips` and `trip_stops` are set: the numbers of records of
+ *                                Zastavky, Linky, Spoje and Zasspoje. With every refusal all four are 0.
  *   SLOVDRIM_TOO_LONG            `file` is set.
  *   SLOVDRIM_NOT_LEGAL, SLOVDRIM_ENDS_INSIDE  `file` and `offset` are set.
  *   SLOVDRIM_WRONG_VERSION       `file` is 1; `record` and `field` are 1 if VerzeJDF has one record, else 0.
@@ -374,7 +379,7 @@ slovdrim_trip_stop_answer slovdrim_trip_stop(const uint8_t *verzejdf, size_t ver
 /*
  * The version of this interface: SLOVDRIM_VERSION of the header that the library was made with. It never refuses.
  */
-#define SLOVDRIM_VERSION 2
+#define SLOVDRIM_VERSION 3
 uint64_t slovdrim_version(void);
 
 /*
@@ -463,7 +468,7 @@ SLOVDRIM_LAYOUT(sizeof(slovdrim_records_answer) == 48 && offsetof(slovdrim_recor
 SLOVDRIM_LAYOUT(sizeof(slovdrim_stretch_answer) == 56 && offsetof(slovdrim_stretch_answer, length) == 48, "layout of slovdrim_stretch_answer");
 SLOVDRIM_LAYOUT(sizeof(slovdrim_write_answer) == 16 && offsetof(slovdrim_write_answer, place) == 8, "layout of slovdrim_write_answer");
 SLOVDRIM_LAYOUT(sizeof(slovdrim_fields_answer) == 40 && offsetof(slovdrim_fields_answer, offset) == 32, "layout of slovdrim_fields_answer");
-SLOVDRIM_LAYOUT(sizeof(slovdrim_check_answer) == 40 && offsetof(slovdrim_check_answer, offset) == 32, "layout of slovdrim_check_answer");
+SLOVDRIM_LAYOUT(sizeof(slovdrim_check_answer) == 72 && offsetof(slovdrim_check_answer, trip_stops) == 64, "layout of slovdrim_check_answer");
 SLOVDRIM_LAYOUT(sizeof(slovdrim_runs_answer) == 48 && offsetof(slovdrim_runs_answer, runs) == 40, "layout of slovdrim_runs_answer");
 SLOVDRIM_LAYOUT(sizeof(slovdrim_trip_stop_answer) == 112 && offsetof(slovdrim_trip_stop_answer, stops) == 104, "layout of slovdrim_trip_stop_answer");
 SLOVDRIM_LAYOUT(sizeof(slovdrim_day_answer) == 16 && offsetof(slovdrim_day_answer, day) == 8, "layout of slovdrim_day_answer");

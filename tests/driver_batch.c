@@ -14,6 +14,8 @@ static struct lent files[FILES], order;
 
 struct batch batch;
 
+_Static_assert(sizeof(slovdrim_check_answer) / 8 <= WORDS, "an answer has room");
+
 const uint8_t *placed_at(const struct lent *l, enum placing where)
 {
     return lent_at(l, where != NOWHERE ? where : l->length == 0 ? NOWHERE : AT_END);
@@ -47,18 +49,28 @@ static void call_hinted(uint64_t answer[WORDS], enum placing where)
     memcpy(answer, &a, sizeof a);
 }
 
-static void check(int hinted)
+/* Every placing. */
+static void check(void)
 {
     uint64_t answers[PLACINGS][WORDS];
-    int i, n = place_batch(AT_END) || (hinted && order.length == 0) ? PLACINGS : PLACINGS - 1;
+    int i, n = place_batch(AT_END) ? PLACINGS : PLACINGS - 1;
     for (i = 0; i < n; i++) {
         place_batch(i);
-        if (hinted)
-            call_hinted(answers[i], i);
-        else
-            call_plain(answers[i], i);
+        call_plain(answers[i], i);
     }
     give_answers(answers, n, sizeof(slovdrim_check_answer) / 8);
+}
+
+/* A batch is asked with several hints: the placings by turns. */
+static void check_hinted(void)
+{
+    static unsigned turn;
+    uint64_t answers[PLACINGS][WORDS];
+    int n = place_batch(AT_END) || order.length == 0 ? PLACINGS : PLACINGS - 1;
+    enum placing where = (enum placing)(turn++ % (unsigned)n);
+    place_batch(where);
+    call_hinted(answers[0], where);
+    give_answers(answers, 1, sizeof(slovdrim_check_answer) / 8);
 }
 
 /* One file of a length that no room holds: the bytes are there, all zero, and nothing has to be read to refuse them. */
@@ -119,10 +131,10 @@ int batch_request(uint8_t letter)
         lend(&order, 4 * take_word());
         return 1;
     case 'K':
-        check(0);
+        check();
         return 1;
     case 'k':
-        check(1);
+        check_hinted();
         return 1;
     case 'M':
         check_of_huge();

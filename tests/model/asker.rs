@@ -2,12 +2,13 @@
 
 use std::sync::Arc;
 
-use crate::batch_faults::{edit, finish, rank, Fault, Words, FINE};
+use crate::batch_faults::{broken, Fault, Words, FINE};
 use crate::batches::Batch;
+use crate::fields::{kind_names, name_of, rule_names, rules, NOT_OF_ITS_KIND, RULE_BROKEN};
 use crate::generator::Random;
 use crate::hints::{right, wrong, EMPTY, KINDS, PLAIN, RIGHT};
 use crate::link::{Call, Link};
-use crate::links::{first_fault, too_long, Bytes};
+use crate::links::{first_fault, records_of, too_long, verdict, Bytes};
 use crate::trips::{day_rules_broken, stop_rules_broken, trips, DAY_RULES, STOP_RULES};
 
 /// Which hints a batch is asked with.
@@ -62,7 +63,7 @@ impl<'a> Asker<'a> {
             }
             hints.extend([(PLAIN, Vec::new()), (EMPTY, Vec::new())].into_iter().chain(others));
         }
-        let ways = [ways, &reasons(&batch, want)].concat();
+        let (ways, words) = ([ways, &reasons(&batch, want)].concat(), verdict(&batch, want));
         let (batch, ways) = (Arc::new(batch), Arc::new(ways));
         for (kind, hint) in hints {
             if kind == PLAIN {
@@ -71,7 +72,7 @@ impl<'a> Asker<'a> {
                 self.lend_hint(&hint);
                 self.link.letter(b'k');
             }
-            self.link.expect(Call::Check { batch: batch.clone(), huge: None, hint: Arc::new(hint), kind, ways: ways.clone() }, &want);
+            self.link.expect(Call::Check { batch: batch.clone(), huge: None, hint: Arc::new(hint), kind, ways: ways.clone() }, &words);
         }
     }
 
@@ -84,21 +85,18 @@ impl<'a> Asker<'a> {
         self.link.letter(b'M');
         self.link.word(huge.0);
         self.link.word(huge.1);
+        let words = verdict(&batch, want);
         let (batch, ways) = (Arc::new(batch), Arc::new(ways.to_vec()));
         for kind in [PLAIN, KINDS[17]] {
-            self.link.expect(Call::Check { batch: batch.clone(), huge: Some(huge), hint: Arc::new(hint.to_vec()), kind, ways: ways.clone() }, &want);
+            self.link.expect(Call::Check { batch: batch.clone(), huge: Some(huge), hint: Arc::new(hint.to_vec()), kind, ways: ways.clone() }, &words);
         }
     }
 
     /// A batch with some faults in it, the first of which decides.
     pub fn ask_faults(&mut self, batch: &Batch, faults: &[&Fault], want: Option<Words>, ways: &[String], asked: Asked) {
-        let mut broken = batch.clone();
-        faults.iter().for_each(|f| edit(&mut broken, f));
-        let mut bytes = broken.bytes();
-        let all: Vec<Words> = faults.iter().map(|f| finish(&mut bytes, f)).collect();
-        let want = want.unwrap_or_else(|| all.into_iter().filter(|w| *w != FINE).min_by_key(rank).unwrap_or(FINE));
-        let before = right(&batch.bytes()).unwrap();
-        match faults.iter().find_map(|f| if let Fault::Huge { file, length } = f { Some((*file, *length)) } else { None }) {
+        let (bytes, huge, first) = broken(batch, faults);
+        let (want, before) = (want.unwrap_or(first), right(&batch.bytes()).unwrap());
+        match huge {
             Some(huge) => self.ask_huge(bytes, huge, want, ways, &before),
             None => self.ask(bytes, want, ways, &before, asked),
         }
@@ -107,20 +105,32 @@ impl<'a> Asker<'a> {
     /// A batch as it is.
     pub fn ask_batch(&mut self, batch: &Batch, want: Words, ways: &[String], asked: Asked) {
         let bytes = batch.bytes();
+        if want == FINE {
+            let counts: Vec<u64> = [2, 5, 6, 8].iter().map(|&file| batch.count(file) as u64).collect();
+            assert_eq!(verdict(&bytes, FINE)[5..], counts[..], "the model's counts on a batch made for {:?}", ways);
+        }
         let before = right(&bytes).unwrap_or_default();
         self.ask(bytes, want, ways, &before, asked);
     }
 }
 
-/// What the model finds wrong with a trip that is refused, for the run to count; whether it is alone or beside others.
-fn reasons(batch: &Bytes, want: Words) -> Vec<String> {
-    let broken: Vec<String> = match want {
-        [DAY_RULES, _, record, ..] => day_rules_broken(&trips(batch)[record as usize - 1]),
-        [STOP_RULES, _, record, ..] => stop_rules_broken(&trips(batch)[record as usize - 1]).iter().map(|s| s.to_string()).collect(),
+/// What the model finds wrong with a field, a record or a trip that is refused, for the run to count; of rules, whether one is alone or beside others.
+pub fn reasons(batch: &Bytes, want: Words) -> Vec<String> {
+    let [number, file, record, field, _] = want;
+    let in_record = |file: u64| records_of(file, &batch[file as usize - 1]).swap_remove(record as usize - 1);
+    let trip = || trips(batch).swap_remove(record as usize - 1);
+    let broken: Vec<String> = match number {
+        NOT_OF_ITS_KIND => {
+            let empty = in_record(file)[field as usize - 1].is_empty();
+            return vec![format!("5 by kind{}: {}", if empty { ", empty though required" } else { "" }, kind_names(file)[field as usize - 1])];
+        }
+        RULE_BROKEN => rules(file, &in_record(file)).iter().zip(rule_names(file)).filter(|(kept, _)| **kept == Some(false)).map(|(_, name)| format!("{}, {}", name_of(file), name)).collect(),
+        DAY_RULES => day_rules_broken(&trip()),
+        STOP_RULES => stop_rules_broken(&trip()).iter().map(|s| s.to_string()).collect(),
         _ => Vec::new(),
     };
     let alone = if broken.len() == 1 { "alone" } else { "beside others" };
-    broken.iter().map(|b| format!("{} {}: {}", want[0], alone, b)).collect()
+    broken.iter().map(|b| format!("{} {}: {}", number, alone, b)).collect()
 }
 
 fn shown(batch: &Bytes) -> String {

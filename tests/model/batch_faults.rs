@@ -3,14 +3,14 @@
 use std::collections::BTreeSet;
 
 use crate::batches::{code_fields, ico_text, line_text, number, signs_for, written, written_for, Batch, KEY_FIELDS};
-use crate::damage::{break_field, break_rule, breaks};
+use crate::damage::{break_field, breaks};
 use crate::fields::{NOT_OF_ITS_KIND, RULE_BROKEN, SIGNS};
 use crate::format::{ENDS_INSIDE, FIELDS, NOT_LEGAL, TOO_LONG};
 use crate::generator::Random;
 use crate::links::{Bytes, KEY_USED, LINK_TO_NOTHING, SIGN_NOT_PERMITTED, WRONG_VERSION};
 use crate::maker::Maker;
 use crate::plans::{any_mark, coded, is_day_sign};
-use crate::trip_faults::{day_breaks, other_mark, DayBreak, STOP_DAMAGE};
+use crate::trip_faults::{day_breaks, other_mark, Damage, DayBreak, STOP_DAMAGE};
 use crate::trips::{DAY_RULES, STOP_RULES};
 
 pub type Words = [u64; 5];
@@ -207,14 +207,12 @@ pub fn signed(r: &mut Random, b: &Batch, file: u64, row: usize, field: usize, si
 }
 
 /// Two of a trip's Caskody records, and for a day sign its Spoje record, break a day rule. None for a trip that hasn't two.
-fn day_fault(m: &mut Maker, b: &Batch, row: usize) -> Option<Fault> {
+pub fn day_fault(m: &mut Maker, b: &Batch, row: usize, way: DayBreak) -> Option<Fault> {
     let key = b.key(6, row);
     let rows = b.rows_of_trip(10, key[0], key[1]);
     if rows.len() < 2 {
         return None;
     }
-    let all = day_breaks();
-    let way = all[m.r.below(all.len())];
     let [one, other] = way.kinds(&mut m.r);
     let mark = any_mark(&mut m.r);
     let other_mark = if other == 0 { other_mark(&mut m.r, &mark) } else { mark.clone() };
@@ -232,12 +230,11 @@ fn day_fault(m: &mut Maker, b: &Batch, row: usize) -> Option<Fault> {
     Some(Fault::Edits { edits, leans_on, want: of_trip(DAY_RULES, row) })
 }
 
-/// A trip's Zasspoje records break a stop rule, in a way that its stops give room for.
-fn stop_fault(m: &mut Maker, b: &Batch, row: usize) -> Option<Fault> {
+/// A trip's Zasspoje records break a stop rule. None for a trip whose stops give no room for it.
+pub fn stop_fault(m: &mut Maker, b: &Batch, row: usize, damage: Damage) -> Option<Fault> {
     let key = b.key(6, row);
     let plan = b.plans.iter().find(|p| p.line == key[0] && p.number == key[1])?;
     let mut halts = plan.halts.clone();
-    let damage = STOP_DAMAGE[m.r.below(STOP_DAMAGE.len())].2;
     damage(&mut m.r, &mut halts)?;
     let mut edits = Vec::new();
     let mut leans_on = vec![(6, row, 1), (6, row, 2)];
@@ -253,6 +250,35 @@ fn stop_fault(m: &mut Maker, b: &Batch, row: usize) -> Option<Fault> {
 fn differing(b: &Batch, file: u64, row: usize, now: &[Vec<u8>]) -> Vec<(Cell, Vec<u8>)> {
     let before = b.texts(file, row);
     (1..=before.len()).filter(|&f| before[f - 1] != now[f - 1]).map(|f| ((file, row, f), now[f - 1].clone())).collect()
+}
+
+/// A text that isn't of its field's kind.
+pub fn field_fault(m: &mut Maker, b: &Batch, file: u64, row: usize, field: usize) -> Fault {
+    let mut now = b.texts(file, row).clone();
+    break_field(m, file, &mut now, field);
+    field_fault_with(file, row, field, &now[field - 1])
+}
+
+/// The same with this text.
+pub fn field_fault_with(file: u64, row: usize, field: usize, text: &[u8]) -> Fault {
+    Fault::Edits { edits: vec![((file, row, field), text.to_vec())], leans_on: Vec::new(), want: [NOT_OF_ITS_KIND, file, row as u64 + 1, field as u64, 0] }
+}
+
+/// A rule inside a record, broken by one of the sets of `breaks`.
+pub fn rule_fault(b: &Batch, file: u64, row: usize, set: usize) -> Fault {
+    let mut now = b.texts(file, row).clone();
+    for &(field, text) in breaks(file)[set] {
+        now[field - 1] = text.to_vec();
+    }
+    let leans_on = breaks(file).iter().flat_map(|set| set.iter()).map(|&(f, _)| (file, row, f)).collect();
+    Fault::Edits { edits: differing(b, file, row, &now), leans_on, want: [RULE_BROKEN, file, row as u64 + 1, 0, 0] }
+}
+
+/// A code whose sign can't stand in this field.
+pub fn sign_fault(r: &mut Random, b: &Batch, file: u64, row: usize, field: usize) -> Fault {
+    let others: Vec<u8> = SIGNS.iter().copied().filter(|s| !signs_for(file).contains(s)).collect();
+    let sign = r.pick(&others);
+    Fault::Edits { edits: vec![((file, row, field), b.known.code_text(r, sign))], leans_on: Vec::new(), want: not_permitted(file, row, field) }
 }
 
 /// Files in which a fault of this number can be.
@@ -285,17 +311,10 @@ pub fn fault(m: &mut Maker, b: &Batch, number: u64, file: u64, row: Option<usize
             Fault::Version(all[m.r.below(8)].iter().map(|t| t.to_vec()).collect())
         }
         5 => {
-            let mut now = b.texts(file, at).clone();
             let field = 1 + m.r.below(FIELDS[file as usize - 1]);
-            break_field(m, file, &mut now, field);
-            Fault::Edits { edits: differing(b, file, at, &now), leans_on: Vec::new(), want: [NOT_OF_ITS_KIND, file, at as u64 + 1, field as u64, 0] }
+            field_fault(m, b, file, at, field)
         }
-        6 => {
-            let mut now = b.texts(file, at).clone();
-            break_rule(m, file, &mut now);
-            let leans_on = breaks(file).iter().flat_map(|set| set.iter()).map(|&(f, _)| (file, at, f)).collect();
-            Fault::Edits { edits: differing(b, file, at, &now), leans_on, want: [RULE_BROKEN, file, at as u64 + 1, 0, 0] }
-        }
+        6 => rule_fault(b, file, at, m.r.below(breaks(file).len())),
         7 => {
             let pairs: Vec<(usize, usize)> = (0..count)
                 .flat_map(|i| (0..count).map(move |j| (i, j)))
@@ -313,14 +332,19 @@ pub fn fault(m: &mut Maker, b: &Batch, number: u64, file: u64, row: Option<usize
             let field = fields[m.r.below(fields.len())];
             dangling(&mut m.r, b, file, at, field)
         }
-        10 => return day_fault(m, b, at),
-        11 => return stop_fault(m, b, at),
+        10 => {
+            let all = day_breaks();
+            let way = all[m.r.below(all.len())];
+            return day_fault(m, b, at, way);
+        }
+        11 => {
+            let damage = STOP_DAMAGE[m.r.below(STOP_DAMAGE.len())].2;
+            return stop_fault(m, b, at, damage);
+        }
         _ => {
             let fields = code_fields(file);
             let field = fields[m.r.below(fields.len())];
-            let others: Vec<u8> = SIGNS.iter().copied().filter(|s| !signs_for(file).contains(s)).collect();
-            let sign = m.r.pick(&others);
-            Fault::Edits { edits: vec![((file, at, field), b.known.code_text(&mut m.r, sign))], leans_on: Vec::new(), want: not_permitted(file, at, field) }
+            sign_fault(&mut m.r, b, file, at, field)
         }
     })
 }
@@ -359,6 +383,16 @@ pub fn edit(b: &mut Batch, fault: &Fault) {
         }
         _ => (),
     }
+}
+
+/// A batch with some faults in it: its bytes, the file that is huge, and the first of the faults, which decides.
+pub fn broken(batch: &Batch, faults: &[&Fault]) -> (Bytes, Option<(u64, u64)>, Words) {
+    let mut edited = batch.clone();
+    faults.iter().for_each(|f| edit(&mut edited, f));
+    let mut bytes = edited.bytes();
+    let all: Vec<Words> = faults.iter().map(|f| finish(&mut bytes, f)).collect();
+    let huge = faults.iter().find_map(|f| if let Fault::Huge { file, length } = f { Some((*file, *length)) } else { None });
+    (bytes, huge, all.into_iter().filter(|w| *w != FINE).min_by_key(rank).unwrap_or(FINE))
 }
 
 /// What the fault alone leads to; bytes that are damaged are damaged now.

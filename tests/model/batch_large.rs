@@ -9,6 +9,7 @@ use crate::fields::name_of;
 use crate::format::{writing, LONGEST};
 use crate::hints::KINDS;
 use crate::link::{Call, Link};
+use crate::links::verdict;
 use crate::maker::Maker;
 
 fn large_sizes(file: usize, count: usize) -> Sizes {
@@ -55,20 +56,20 @@ pub fn large_files(link: &mut Link) {
     let mut m = Maker::new(43);
     let mut a = Asker::new(link, 43);
     for file in 2..=13 {
-        one_large(&mut a, &mut m, file, 2500, Order::Rising, Asked::Some(3), Asked::Right);
-        one_large(&mut a, &mut m, file, 2500, Order::Shuffled, Asked::Right, Asked::Right);
-        one_large(&mut a, &mut m, file, 400, ORDERS[file as usize % 5], Asked::Some(3), Asked::Some(1));
+        one_large(&mut a, &mut m, file, 1500, Order::Rising, Asked::Some(1), Asked::Right);
+        one_large(&mut a, &mut m, file, 1500, Order::Shuffled, Asked::Right, Asked::Right);
+        one_large(&mut a, &mut m, file, 250, ORDERS[file as usize % 5], Asked::Some(3), Asked::Some(1));
     }
     for order in [Order::Rising, Order::Shuffled, Order::Falling] {
-        let sizes = [0, 1, 1500, 1500, 1500, 1500, 1500, 1500, 3000, 1500, 1500, 1500, 1500, 1500];
+        let sizes = [0, 1, 800, 800, 800, 800, 800, 800, 1600, 800, 800, 800, 800, 800];
         let b = Batch::arranged(&mut m, &sizes, order);
-        a.ask_batch(&b, FINE, &way("all files large"), if order == Order::Rising { Asked::Some(3) } else { Asked::Right });
+        a.ask_batch(&b, FINE, &way("all files large"), if order == Order::Rising { Asked::Some(1) } else { Asked::Right });
         a.link.flush();
     }
 }
 
 /// Udaje of exactly so many bytes, its keys rising.
-fn udaje_of_length(line: u64, length: usize) -> Vec<u8> {
+pub fn udaje_of_length(line: u64, length: usize) -> Vec<u8> {
     let record = |n: usize, text: usize| writing(&[vec![line_text(line), format!("{:09}", n).into_bytes(), vec![0xec; text]]]);
     let (around, full) = (record(0, 0).len(), record(0, 254).len());
     let mut bytes = Vec::with_capacity(length);
@@ -118,5 +119,6 @@ pub fn longest(link: &mut Link) {
     a.lend(&b.bytes());
     a.lend_hint(&hint);
     a.link.letter(b'k');
-    a.link.expect(Call::Check { batch: Arc::new(b.bytes()), huge: None, hint: Arc::new(hint), kind: KINDS[9], ways: Arc::new(Vec::new()) }, &FINE);
+    let words = verdict(&b.bytes(), FINE);
+    a.link.expect(Call::Check { batch: Arc::new(b.bytes()), huge: None, hint: Arc::new(hint), kind: KINDS[9], ways: Arc::new(Vec::new()) }, &words);
 }

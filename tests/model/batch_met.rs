@@ -3,7 +3,7 @@
 use std::collections::BTreeMap;
 
 use crate::batch_faults::{files_for, linked_fields};
-use crate::batch_pairs::pairs;
+use crate::batch_pairs::pair_names;
 use crate::batches::{code_fields, KEY_FIELDS};
 use crate::fields::name_of;
 use crate::hints::KINDS;
@@ -42,7 +42,7 @@ fn ways() -> Vec<String> {
         }
         all.push(format!("{}: large, it stands", name));
     }
-    all.extend(pairs());
+    all.extend(pair_names());
     all
 }
 
@@ -107,17 +107,25 @@ pub fn batches(report: &Report, number: u64, file: Option<u64>, field: Option<u6
     report.places.iter().filter(|(place, _)| fits(place)).map(|(_, c)| c).sum()
 }
 
-/// Prints how often each number, each file's 7, each field's 8 and 9, each kind of hint and each way of damage was met.
-pub fn told(report: &mut Report) {
-    let mut met = Met::default();
-    met.line("batches by number", (0..=11).map(|n| (n.to_string(), batches(report, n, None, None))).collect());
-    met.line("batches with 7 by file", (2..=10).map(|f| (name_of(f).to_string(), batches(report, 7, Some(f), None))).collect());
+/// How often each file's 5 and 7 were met, 8 at each linked field and 9 at each field of a code.
+pub fn places(met: &mut Met, report: &Report) {
+    for number in [5, 7] {
+        let counts = files_for(number).iter().map(|&f| (name_of(f).to_string(), batches(report, number, Some(f), None))).collect();
+        met.line(&format!("batches with {} by file", number), counts);
+    }
     for (number, fields) in [(8, linked_fields as fn(u64) -> Vec<usize>), (9, code_fields)] {
         for file in files_for(number) {
             let counts = fields(file).iter().map(|&f| (f.to_string(), batches(report, number, Some(file), Some(f as u64)))).collect();
             met.line(&format!("batches with {} in {} at field", number, name_of(file)), counts);
         }
     }
+}
+
+/// Prints how often each number, each file's 7, each field's 8 and 9, each kind of hint and each way of damage was met.
+pub fn told(report: &mut Report) {
+    let mut met = Met::default();
+    met.line("batches by number", (0..=11).map(|n| (n.to_string(), batches(report, n, None, None))).collect());
+    places(&mut met, report);
     met.hints(report, &KINDS, &[0, 7, 8, 9, 10, 11]);
     met.ways(report, ways());
     met.finish(report);

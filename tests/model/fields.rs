@@ -71,15 +71,25 @@ pub fn name_of(file: u64) -> &'static str {
     TABLE[file as usize - 1].0
 }
 
-/// The fields of a file's records, 2 to 13.
-pub fn fields_of_file(file: u64) -> Vec<Field> {
-    let mut fields = Vec::new();
+/// The table's word for each field of a file's records, 2 to 13.
+fn words_of(file: u64) -> Vec<&'static str> {
+    let mut words = Vec::new();
     for word in TABLE[file as usize - 1].1.split(' ') {
         let (kind, times) = word.split_once('*').unwrap_or((word, "1"));
-        fields.extend(vec![field_of(kind); times.parse().unwrap()]);
+        words.extend(vec![kind; times.parse().unwrap()]);
     }
-    assert_eq!(fields.len(), FIELDS[file as usize - 1], "the model's table of file {}", file);
-    fields
+    assert_eq!(words.len(), FIELDS[file as usize - 1], "the model's table of file {}", file);
+    words
+}
+
+/// The fields of a file's records, 2 to 13.
+pub fn fields_of_file(file: u64) -> Vec<Field> {
+    words_of(file).into_iter().map(field_of).collect()
+}
+
+/// The kind of each field by the table's name for it, whether it is required or not.
+pub fn kind_names(file: u64) -> Vec<&'static str> {
+    words_of(file).into_iter().map(|word| word.trim_end_matches('?')).collect()
 }
 
 fn all_digits(text: &[u8]) -> bool {

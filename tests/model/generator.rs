@@ -1,12 +1,27 @@
 //! Files, texts and damage by seed: the same seed gives the same bytes on every machine.
 
+use std::sync::atomic::{AtomicU64, Ordering};
+
 use crate::format::{permitted_byte, permitted_text, Record};
+
+/// The seed of the whole run. With 0 each maker begins from its own seed alone.
+static RUN: AtomicU64 = AtomicU64::new(0);
+
+/// Takes the run's seed from SLOVDRIM_SEED, if it is set.
+pub fn take_seed() -> u64 {
+    let seed = match std::env::var("SLOVDRIM_SEED") {
+        Ok(text) => text.parse().unwrap_or_else(|_| panic!("SLOVDRIM_SEED is no number: {}", text)),
+        Err(_) => 0,
+    };
+    RUN.store(seed, Ordering::Relaxed);
+    seed
+}
 
 pub struct Random(u64);
 
 impl Random {
     pub fn new(seed: u64) -> Random {
-        Random(seed)
+        Random(seed.wrapping_add(RUN.load(Ordering::Relaxed).wrapping_mul(0xd134_2543_de82_ef95)))
     }
 
     pub fn next(&mut self) -> u64 {

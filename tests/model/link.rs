@@ -126,7 +126,7 @@ fn hex(bytes: &[u8]) -> String {
 }
 
 /// The files of a batch, a line each.
-fn told_files(batch: &Bytes, huge: Option<(u64, u64)>) -> String {
+pub fn told_files(batch: &Bytes, huge: Option<(u64, u64)>) -> String {
     let mut s = String::new();
     for (file, bytes) in (1..).zip(batch.iter()) {
         match huge {

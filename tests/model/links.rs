@@ -1,5 +1,5 @@
-//! Document 01, "The batch": the keys and links of each file (refusals 7 and 8), the signs permitted by place (9), and the order in which the refusals 1 to 11
-//! of a batch are tried; `trips.rs` has 10 and 11. Plain and slow: every key of every file stands in a map before the first record is judged.
+//! Document 01, "The batch": the keys and links of each file (refusals 7 and 8), the signs permitted by place (9), the order in which the refusals 1 to 11
+//! of a batch are tried, and the counts of a batch that is accepted; `trips.rs` has 10 and 11. Plain and slow: every key of every file stands in a map before the first record is judged.
 
 use std::collections::HashMap;
 
@@ -176,6 +176,16 @@ impl<'a> Judge<'a> {
 pub fn first_fault(batch: &Bytes) -> [u64; 5] {
     let of_trips = || trips::first_fault(&trips::trips(batch));
     before_keys(batch).or_else(|| Judge::new(batch).first_fault()).or_else(of_trips).unwrap_or([0; 5])
+}
+
+/// A verdict on a batch: the first fault, then the counts.
+pub type Verdict = [u64; 9];
+
+/// "The counts are the records of files 2, 5, 6 and 8"; they are given where there is no fault, and are 0 with one.
+pub fn verdict(batch: &Bytes, fault: [u64; 5]) -> Verdict {
+    let [number, file, record, field, offset] = fault;
+    let count = |file: u64| if number == 0 { records_of(file, &batch[file as usize - 1]).len() as u64 } else { 0 };
+    [number, file, record, field, offset, count(ZASTAVKY), count(LINKY), count(SPOJE), count(ZASSPOJE)]
 }
 
 /// For each of the files 2 to 10, record by record, the key and the offset at which the record begins. None for a batch with one of the refusals 1 to 6.

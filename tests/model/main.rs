@@ -1,8 +1,11 @@
 //! An independent implementation of document 01, "The batch", "Bytes of a file", "Fields", "Days" and "A trip's stops", and its comparison with the library.
 //!
-//!     model compare files|days|fields|links|trips DRIVER ARGUMENTS..   ask the driver everything and compare
-//!     model almanac                                                    every day of the model's own calendar, a line each
-//!     model samples FOLDER                                             whether the model accepts each file of a batch, read by itself
+//!     model compare files|days|fields|links|trips|whole DRIVER ARGUMENTS..   ask the driver everything and compare
+//!     model program FOLDER PROGRAM ARGUMENTS..                               run the check program on batches in this folder, which it makes, and compare
+//!     model almanac                                                          every day of the model's own calendar, a line each
+//!     model samples FOLDER                                                   whether the model accepts each file of a batch, read by itself
+//!
+//! SLOVDRIM_SEED is a number that all batches and files by seed begin from; 0 if it isn't set.
 //!
 //! It was written from document 01 and the tables of document 000 alone. It needs nothing but Rust's standard library.
 
@@ -14,6 +17,7 @@ mod batch_pairs;
 mod batch_questions;
 mod batches;
 mod calendar;
+mod cases;
 mod damage;
 mod days;
 mod faults;
@@ -26,12 +30,14 @@ mod link;
 mod links;
 mod maker;
 mod plans;
+mod program;
 mod rules;
 mod sweep;
 mod trip_faults;
 mod trip_met;
 mod trip_questions;
 mod trips;
+mod whole;
 
 use std::time::Instant;
 
@@ -99,8 +105,8 @@ const DAYS_MET: &[(&str, u64, &str)] = &[
     ("slovdrim_fits", 12, ""),
 ];
 
-/// The sweeps: file 1 to 11 bytes, file 3 to 16.
-const SWEEPS: [(u64, usize, usize, usize); 2] = [(1, 11, 11, 2), (3, 16, 12, 6)];
+/// The sweeps: file 1 to 11 bytes, file 3 to 14, which is a whole record and three bytes more.
+const SWEEPS: [(u64, usize, usize, usize); 2] = [(1, 11, 11, 2), (3, 14, 12, 6)];
 
 fn step(report: &mut Report, command: &[String], name: &str, ask: impl FnOnce(&mut Link)) {
     let began = Instant::now();
@@ -201,6 +207,17 @@ fn compare_links(command: &[String]) -> Report {
     report
 }
 
+fn compare_whole(command: &[String]) -> Report {
+    let mut report = Report::default();
+    step(&mut report, command, "valid", whole::valid);
+    step(&mut report, command, "damaged once", whole::damaged_once);
+    step(&mut report, command, "damaged twice", whole::damaged_twice);
+    step(&mut report, command, "bytes damaged", whole::damaged_bytes);
+    step(&mut report, command, "files missing", whole::missing);
+    step(&mut report, command, "a file too long", whole::too_long);
+    report
+}
+
 /// Prints how often each answer was met; one that never was is a fault of the run, unless differences have kept it from being met.
 fn told(report: &mut Report, met: &'static [(&'static str, u64, &'static str)], weeks: bool) {
     for key in met {
@@ -229,6 +246,10 @@ fn told(report: &mut Report, met: &'static [(&'static str, u64, &'static str)], 
 fn main() {
     let arguments: Vec<String> = std::env::args().skip(1).collect();
     let words: Vec<&str> = arguments.iter().map(|a| a.as_str()).collect();
+    let seed = generator::take_seed();
+    if matches!(words[..], ["compare" | "program", ..]) {
+        println!("seed {}", seed);
+    }
     let mut report = match words[..] {
         ["almanac"] => {
             for (i, d) in Calendar::new().days.iter().enumerate() {
@@ -261,6 +282,16 @@ fn main() {
             trip_met::told(&mut report);
             report
         }
+        ["compare", "whole", _, ..] => {
+            let mut report = compare_whole(&arguments[2..]);
+            whole::told(&mut report);
+            report
+        }
+        ["program", folder, _, ..] => {
+            let mut report = program::compare(folder, &arguments[2..]);
+            program::told(&mut report);
+            report
+        }
         ["samples", folder] => {
             if !faults::samples_stand(folder) {
                 std::process::exit(1);
@@ -269,7 +300,7 @@ fn main() {
             return;
         }
         _ => {
-            eprintln!("model compare files|days|fields|links|trips DRIVER ARGUMENTS.. | model almanac | model samples FOLDER");
+            eprintln!("model compare files|days|fields|links|trips|whole DRIVER ARGUMENTS.. | model program FOLDER PROGRAM ARGUMENTS.. | model almanac | model samples FOLDER");
             std::process::exit(2);
         }
     };

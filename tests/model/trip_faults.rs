@@ -130,7 +130,7 @@ fn under(r: &mut Random, end: u64) -> u64 {
 }
 
 /// Changes the halts of a trip that stands so that one rule is broken; None where they give no way to it.
-type Damage = fn(&mut Random, &mut [Halt]) -> Option<()>;
+pub type Damage = fn(&mut Random, &mut [Halt]) -> Option<()>;
 
 /// Each way to break a stop rule, with the model's name for what is broken.
 pub const STOP_DAMAGE: [(&str, &str, Damage); 21] = [

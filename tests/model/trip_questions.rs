@@ -150,7 +150,7 @@ fn numbers(r: &mut Random, count: usize, end: usize) -> Vec<u64> {
 }
 
 /// Trips that stand, on two lines that share their numbers: 0, odd ones and even ones. Each has so many stops, with a timetable and no days.
-fn plans(m: &mut Maker, count: usize, stops: usize, days: (usize, usize)) -> Vec<Plan> {
+pub fn plans(m: &mut Maker, count: usize, stops: usize, days: (usize, usize)) -> Vec<Plan> {
     let (lines, places) = (numbers(&mut m.r, 2, 1_000_000), numbers(&mut m.r, 3, 1_000_000_000));
     let mut trips = numbers(&mut m.r, count, 1_000_000_000);
     if m.r.one_in(3) && !trips.contains(&0) {
@@ -501,7 +501,7 @@ pub fn near_misses(link: &mut Link) {
 /// Every stop of many trips, also of batches with all their files.
 pub fn stops(link: &mut Link) {
     let mut d = Desk::new(link, 58);
-    for i in 0..70 {
+    for i in 0..50 {
         let count = 2 + d.m.r.below(6);
         let mut all = varied(&mut d, 4, count);
         let left = 2 + d.m.r.below(count - 1);
@@ -510,7 +510,7 @@ pub fn stops(link: &mut Link) {
         d.check(&b, FINE, &way("it stands"), Asked::Some(1));
         all.iter().for_each(|plan| d.ask_plan_stops(plan));
     }
-    for i in 0..20 {
+    for i in 0..10 {
         let order = d.order(i);
         let b = Batch::arranged(&mut d.m, &SMALL, order);
         d.check(&b, FINE, &way("it stands, with all its files"), Asked::Some(1));
@@ -531,7 +531,7 @@ fn far_from(n: u64) -> [u64; 6] {
 /// Trips, days and stops that aren't there.
 pub fn no_such(link: &mut Link) {
     let mut d = Desk::new(link, 59);
-    for i in 0..12 {
+    for i in 0..8 {
         let all = varied(&mut d, 5, 3);
         let b = d.batch_of(all.clone(), i);
         d.check(&b, FINE, &way("it stands"), Asked::Some(1));
@@ -685,18 +685,20 @@ fn break_large(d: &mut Desk, order: Order, all: &[Plan]) {
     check_large(d, order, broken, STOP_RULES, 1);
 }
 
-/// Trips with many stops and many codes.
+/// Trips with many stops and many codes. A question has no hint, so those in files that don't rise are less large.
 pub fn large_trips(link: &mut Link) {
     let mut d = Desk::new(link, 62);
     for (i, order) in [Order::Rising, Order::Shuffled, Order::Falling].into_iter().enumerate() {
         let days = year(&mut d.m, i);
-        let mut all = plans(&mut d.m, 3, 150, days);
+        let (stops, codes) = if order == Order::Rising { (150, 60) } else { (60, 25) };
+        let mut all = plans(&mut d.m, 3, stops, days);
         for plan in &mut all {
-            plan.codes = codes_of(&mut d.m.r, b"124", 60, days);
+            plan.codes = codes_of(&mut d.m.r, b"124", codes, days);
         }
         check_large(&mut d, order, all.clone(), 0, 0);
-        for plan in &all {
-            [1, 2, 75, 149, 150, 151].into_iter().for_each(|nth| d.ask_stop(plan.line, plan.number, nth));
+        for plan in &all[i..=i] {
+            let nth = stops as u64;
+            [1, 2, nth / 2, nth - 1, nth, nth + 1].into_iter().for_each(|nth| d.ask_stop(plan.line, plan.number, nth));
             let telling = telling_days(&mut d.m.r, plan, days, &[]);
             d.ask_plan_days(plan, &telling[..8]);
         }

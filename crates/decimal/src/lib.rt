@@ -15,7 +15,7 @@ fn put(d: &mut [u8], at: usize, b: u8)
     d[at] = b;
 }
 
-// Lays the digits of n over d from `at` on, and answers the place after them.
+// inner: lays the digits of n over d from `at` on, and answers the place after them
 pub fn number(d: &mut [u8], at: usize, n: u64) -> usize
     requires { ⌜ at + length (digitsOf n) ≤ length (now d) ⌝ }
     ensures { λ r. ⌜ (now (d .exit) ≡ splice (now (d .entry)) at (digitsOf n)) × (r ≡ at + length (digitsOf n)) ⌝ }

@@ -3,6 +3,14 @@
 // were read in part are never judged.
 use libc::PATH_MAX;
 use wording::program_line;
+ghost use mathlib.Core.Path.{_≡_};
+ghost use mathlib.Core.Bool.{true};
+ghost use Prim.Native.Nat.{_≤_};
+ghost use lib.ListN.{length, take};
+ghost use Rattle.laws.specs.Splice.{splice};
+ghost use Rattle.libc.specs.Io.{Ended};
+ghost use Rattle.wording.specs.Line.{programLine};
+ghost use Rattle.jdfcheck.specs.Buffer.{Reached, Stand, partOf, partsOf};
 
 // One byte more than the files may have together: where it is full there are too many.
 const SPACE: usize = 61_441;
@@ -16,8 +24,10 @@ enum Filled {
 }
 
 // The name as C reads it.
-fn ended(name: &[u8]) -> [u8; PATH_MAX] {
-    let mut path = [0; PATH_MAX];
+fn ended(name: &[u8]) -> [u8; PATH_MAX]
+    ensures { λ r. ⌜ Ended r ⌝ }
+{
+    let mut path = io::buffer();
     let mut i = 0;
     while i < name.len() {
         if i >= PATH_MAX - 1 {
@@ -40,8 +50,11 @@ fn is_missing(name: &[u8]) -> bool {
     libc::readlink(&path, &mut text) < 0
 }
 
-// Reads from `at` on until the file ends or the buffer is full.
-fn fill(fd: i32, buf: &mut [u8], from: usize) -> Filled {
+// Reads until the file ends or the buffer is full. What stands before `from` stays.
+fn fill(fd: i32, buf: &mut [u8], from: usize) -> Filled
+    requires { ⌜ from ≤ length (now buf) ⌝ }
+    ensures { λ r. ⌜ Reached from (length (now (buf .entry))) r × (take from (now (buf .exit)) ≡ take from (now (buf .entry))) ⌝ }
+{
     let mut at = from;
     while at < buf.len() {
         let got = libc::read(fd, &mut buf[at..]);
@@ -56,9 +69,19 @@ fn fill(fd: i32, buf: &mut [u8], from: usize) -> Filled {
     Filled::To(at)
 }
 
-// Reads the file of this name, if there is room: a full buffer says already that the files are too large.
-fn read_file(name: &[u8], buf: &mut [u8], at: usize) -> Filled {
-    if at >= buf.len() {
+// Says of a file that can't be read why.
+fn report(filled: Filled, name: &[u8]) {
+    if let Filled::Failed = filled {
+        os::fail(name);
+    }
+}
+
+// Reads the file of this name behind the others. Where the buffer is full there are too many bytes already.
+fn read_file(name: &[u8], buf: &mut [u8], at: usize) -> Filled
+    requires { ⌜ at ≤ length (now buf) ⌝ }
+    ensures { λ r. ⌜ Reached at (length (now (buf .entry))) r × (take at (now (buf .exit)) ≡ take at (now (buf .entry))) ⌝ }
+{
+    if at == buf.len() {
         return Filled::To(at);
     }
     let fd = os::open_read(name);
@@ -70,15 +93,16 @@ fn read_file(name: &[u8], buf: &mut [u8], at: usize) -> Filled {
         return Filled::Failed;
     }
     let filled = fill(fd, buf, at);
-    if let Filled::Failed = filled {
-        os::fail(name);
-    }
+    report(filled, name);
     libc::close(fd);
     filled
 }
 
 // The file of this number, by its name.
-fn read_numbered(file: usize, buf: &mut [u8], at: usize) -> Filled {
+fn read_numbered(file: usize, buf: &mut [u8], at: usize) -> Filled
+    requires { ⌜ at ≤ length (now buf) ⌝ }
+    ensures { λ r. ⌜ Reached at (length (now (buf .entry))) r × (take at (now (buf .exit)) ≡ take at (now (buf .entry))) ⌝ }
+{
     match file {
         1 => read_file(b"VerzeJDF.txt", buf, at),
         2 => read_file(b"Zastavky.txt", buf, at),
@@ -97,30 +121,40 @@ fn read_numbered(file: usize, buf: &mut [u8], at: usize) -> Filled {
 }
 
 // Reads all files, one behind the other; `ends[file]` is the place after each. Whether each was read.
-fn gather(buf: &mut [u8], ends: &mut [usize; 14]) -> bool {
-    let mut file = 1;
+fn gather(buf: &mut [u8], ends: &mut [usize; 14]) -> bool
+    ensures { λ r. ⌜ (r ≡ true → Stand 13 (length (now (buf .entry))) (now (ends .exit))) ⌝ }
+{
+    let mut file = 0;
     let mut at = 0;
-    while file < 14 {
+    ends[file] = at;
+    while file < 13 {
+        file += 1;
         let filled = read_numbered(file, buf, at);
         let Filled::To(next) = filled else {
             return false;
         };
-        ends[file] = next;
         at = next;
-        file += 1;
+        ends[file] = at;
     }
     true
 }
 
 // The bytes of a file.
-fn part<'a>(buf: &'a [u8], ends: &[usize; 14], file: usize) -> &'a [u8] {
-    let from = ends[file - 1];
+fn part<'a>(buf: &'a [u8], ends: &[usize; 14], file: usize) -> &'a [u8]
+    requires { ⌜ Stand 13 (length (now buf)) (now ends) × (1 ≤ file) × (file ≤ 13) ⌝ }
+    ensures { λ r. ⌜ now r ≡ partOf (now (buf .entry)) (now (ends .entry)) file ⌝ }
+{
+    let before = file - 1;
+    let from = ends[before];
     let to = ends[file];
     &buf[from..to]
 }
 
 // The line of what was read.
-fn line<'a>(buf: &'a [u8], ends: &[usize; 14], d: &mut [u8]) -> usize {
+fn line<'a>(buf: &'a [u8], ends: &[usize; 14], d: &mut [u8]) -> usize
+    requires { ⌜ Stand 13 (length (now buf)) (now ends) × (134 ≤ length (now d)) ⌝ }
+    ensures { λ r. ⌜ (now (d .exit) ≡ splice (now (d .entry)) 0 (programLine (partsOf (now (buf .entry)) (now (ends .entry))))) × (r ≡ length (programLine (partsOf (now (buf .entry)) (now (ends .entry))))) × (r ≤ 134) ⌝ }
+{
     program_line(
         part(buf, ends, 1),
         part(buf, ends, 2),

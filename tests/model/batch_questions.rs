@@ -18,7 +18,7 @@ fn places(m: &mut Maker, count: usize) -> [usize; 3] {
 
 pub fn samples(link: &mut Link) {
     let mut a = Asker::new(link, 31);
-    let bytes: Bytes = (1..=13).map(|file| crate::faults::sample("samples", file)).collect();
+    let bytes: Bytes = (1..=13).map(|file| crate::faults::sample("samples/good", file)).collect();
     a.ask(bytes, FINE, &way("the samples"), &[], Asked::All);
 }
 

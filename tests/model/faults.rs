@@ -388,7 +388,7 @@ pub fn samples_stand(folder: &str) -> bool {
 
 pub fn samples(link: &mut Link) {
     for file in 1..=13 {
-        ask(link, file, sample("samples", file), Vec::new(), FINE);
+        ask(link, file, sample("samples/good", file), Vec::new(), FINE);
     }
 }
 

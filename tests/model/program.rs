@@ -297,7 +297,7 @@ pub fn compare(folder: &str, command: &[String]) -> Report {
     let mut f = Folder { path: PathBuf::from(folder), command, report: Report::default(), empty: false };
     let mut m = Maker::new(77);
     let began = std::time::Instant::now();
-    let samples: Bytes = (1..=13).map(|file| crate::faults::sample("samples", file)).collect();
+    let samples: Bytes = (1..=13).map(|file| crate::faults::sample("samples/good", file)).collect();
     f.ask(&samples, FINE, &way("the samples"));
     let small = |case: Case, f: &mut Folder| {
         if case.batch.iter().map(|b| b.len()).sum::<usize>() <= MOST {

@@ -246,7 +246,7 @@ pub fn small_facts(link: &mut Link) {
 /// The samples: every trip, every stop, and some weeks of days.
 pub fn samples(link: &mut Link) {
     let mut d = Desk::new(link, 52);
-    d.lay((1..=13).map(|file| crate::faults::sample("samples", file)).collect());
+    d.lay((1..=13).map(|file| crate::faults::sample("samples/good", file)).collect());
     d.lend_holidays(vec![37_075, 37_076, 37_161, 37_191, 37_248, 37_249]);
     assert_eq!(d.answers.fault, FINE, "the model on the samples");
     let trips = d.answers.trips.clone();

@@ -20,7 +20,7 @@
 /* Until the header has them. */
 #ifndef SLOVDRIM_KEY_USED
 typedef struct {
-    uint64_t number, file, record, field, offset;
+    uint64_t number, file, record, field, offset, stops, lines, trips, trip_stops;
 } slovdrim_check_answer;
 slovdrim_check_answer slovdrim_check(PAIRS);
 slovdrim_check_answer slovdrim_check_hinted(PAIRS, const uint32_t *order, size_t count);

@@ -17,15 +17,6 @@
 #define PAIR const uint8_t *, size_t
 #define PAIRS PAIR, PAIR, PAIR, PAIR, PAIR, PAIR, PAIR, PAIR, PAIR, PAIR, PAIR, PAIR, PAIR
 
-/* Until the header has them. */
-#ifndef SLOVDRIM_KEY_USED
-typedef struct {
-    uint64_t number, file, record, field, offset, stops, lines, trips, trip_stops;
-} slovdrim_check_answer;
-slovdrim_check_answer slovdrim_check(PAIRS);
-slovdrim_check_answer slovdrim_check_hinted(PAIRS, const uint32_t *order, size_t count);
-#endif
-
 enum { MOST_ROUNDS = 1001, SIZES = 3, PEVNYKOD = 3, SPOJE = 6, ZASSPOJE = 8 };
 
 #define OF(batch, n) (batch)->bytes[n], (batch)->length[n]

@@ -24,16 +24,16 @@ const MOST: usize = 61_440;
 /// So many batches at least.
 const BATCHES: u64 = 300;
 
-/// What the program is to write on standard output, and its exit status.
-fn told_of(batch: &Bytes, fault: Words) -> (String, i32) {
+/// What the program is to write on standard output.
+fn told_of(batch: &Bytes, fault: Words) -> String {
     if batch.iter().map(|b| b.len()).sum::<usize>() > MOST {
-        return ("TOO LARGE\n".to_string(), 1);
+        return "TOO LARGE\n".to_string();
     }
     let [number, file, record, field, offset, stops, lines, trips, trip_stops] = verdict(batch, fault);
     if number == 0 {
-        (format!("ACCEPTED stops {} lines {} trips {} trip stops {}\n", stops, lines, trips, trip_stops), 0)
+        format!("ACCEPTED stops {} lines {} trips {} trip stops {}\n", stops, lines, trips, trip_stops)
     } else {
-        (format!("REFUSED {} file {} record {} field {} at {}\n", number, file, record, field, offset), 1)
+        format!("REFUSED {} file {} record {} field {} at {}\n", number, file, record, field, offset)
     }
 }
 
@@ -91,11 +91,11 @@ impl Folder<'_> {
 
     /// The folder as it is holds this batch.
     fn ask_laid(&mut self, batch: &Bytes, fault: Words, ways: &[String]) {
-        let (line, status) = told_of(batch, fault);
+        let line = told_of(batch, fault);
         let run = self.run();
         self.report.comparisons += 1;
-        if run.line != line.as_bytes() || !run.message.is_empty() || run.status != Some(status) {
-            self.differs(batch, ways, &run, &format!("{:?} \"\" Some({})", line, status));
+        if run.line != line.as_bytes() || !run.message.is_empty() || run.status != Some(0) {
+            self.differs(batch, ways, &run, &format!("{:?} \"\" Some(0)", line));
         } else {
             let place = if line.starts_with('T') { (99, 0, 0) } else { (fault[0], fault[1], fault[3]) };
             *self.report.places.entry(place).or_insert(0) += 1;
@@ -114,12 +114,12 @@ impl Folder<'_> {
         self.ask(&case.batch, case.want, &ways);
     }
 
-    /// The folder has something that can't be read: a message, no line, status 2.
+    /// The folder has something that can't be read: a message and no line. Its status is 0: a program of Rattle has no other.
     fn ask_error(&mut self, batch: &Bytes, way: String) {
         let run = self.run();
         self.report.comparisons += 1;
-        if !run.line.is_empty() || run.message.is_empty() || run.status != Some(2) {
-            self.differs(batch, &[way], &run, "\"\", a message, Some(2)");
+        if !run.line.is_empty() || run.message.is_empty() || run.status != Some(0) {
+            self.differs(batch, &[way], &run, "\"\", a message, Some(0)");
         } else {
             self.counted(&[way]);
         }
@@ -276,6 +276,11 @@ fn errors(f: &mut Folder, m: &mut Maker) {
         let _ = fs::remove_file(f.place(file));
         symlink(format!("{}.txt", name_of(file)), f.place(file)).expect("a link can be made");
         f.ask_error(&bytes, format!("error, a link to itself: {}", name_of(file)));
+        let bytes = cases::standing(m).bytes();
+        f.lay(&bytes);
+        let _ = fs::remove_file(f.place(file));
+        symlink("nothing.txt", f.place(file)).expect("a link can be made");
+        f.ask_error(&bytes, format!("error, a link to nothing: {}", name_of(file)));
     }
     if reads_all(f) {
         println!("files that nobody may read are left out: whoever runs this may read them all the same");
@@ -335,7 +340,7 @@ pub fn told(report: &mut Report) {
     for file in 1..=13 {
         let name = name_of(file);
         wanted.extend([MOST, MOST + 1].iter().map(|total| format!("sizes, {} bytes by: {}", total, name)));
-        wanted.extend(["absent, others of like names", "error, a folder", "error, a link to itself"].iter().map(|w| format!("{}: {}", w, name)));
+        wanted.extend(["absent, others of like names", "error, a folder", "error, a link to itself", "error, a link to nothing"].iter().map(|w| format!("{}: {}", w, name)));
     }
     met.ways(report, wanted);
     if asked < BATCHES && report.differences == 0 {

@@ -28,8 +28,9 @@ pub record Facts : Type 0 where
       × (textOf 1 (34 ∷ 34 ∷ 34 ∷ 59 ∷ 13 ∷ 10 ∷ []) 1 1 ≡ 34 ∷ [])
   -- P6 Udaje `"000123";`: 2 at 8
   pub p6 : recordsOf 9 (34 ∷ 48 ∷ 48 ∷ 48 ∷ 49 ∷ 50 ∷ 51 ∷ 34 ∷ 59 ∷ []) ≡ refusedAt 2 9 8
-  -- P7 29022000 is a date, 29021900 isn't: as the text of a field, and as day, month and year
-  pub p7 : (admits Kind.Date (50 ∷ 57 ∷ 48 ∷ 50 ∷ 50 ∷ 48 ∷ 48 ∷ 48 ∷ []) ≡ true)
+  -- P7 29022000 is a date, 29021900 isn't: as the text of a field, such as Linky's field 9, and as day, month and year
+  pub p7 : (kindOf 5 9 ≡ Kind.Date)
+      × (admits Kind.Date (50 ∷ 57 ∷ 48 ∷ 50 ∷ 50 ∷ 48 ∷ 48 ∷ 48 ∷ []) ≡ true)
       × (admits Kind.Date (50 ∷ 57 ∷ 48 ∷ 50 ∷ 49 ∷ 57 ∷ 48 ∷ 48 ∷ []) ≡ false)
       × (dayAnswer 29 2 2000 ≡ answered (36583 ∷ []))
       × (dayAnswer 29 2 1900 ≡ refused 12)

@@ -16,7 +16,7 @@ ghost use Rattle.lines.specs.Index.{Start};
 ghost use Rattle.keys.specs.KeyFiles.{KeyFile, IsIndex};
 ghost use Rattle.hinted.specs.Hinted.{Goes, Looked, Lower};
 
-// How many records a file has.
+// inner: how many records a file has
 pub fn count(file: u64, s: &[u8]) -> usize
     requires { ⌜ KeyFile file (now s) ⌝ }
     ensures { λ r. ⌜ r ≡ length (recordsIn (fieldsOf file) (now (s .entry))) ⌝ }
@@ -71,7 +71,7 @@ fn lesser(a: usize, b: usize) -> usize
     b
 }
 
-// Looks at a list once. As many entries as records, each where a record starts, no two the same: so none is missing.
+// inner: looks at a list once. As many entries as records, each where a record starts, no two the same: so none is missing
 pub fn look_at(file: u64, s: &[u8], order: &[u32]) -> usize
     requires { ⌜ KeyFile file (now s) × (length (now order) ≡ length (recordsIn (fieldsOf file) (now s))) ⌝ }
     ensures { λ r. ⌜ Looked file (now (s .entry)) (now (order .entry)) r ⌝ }
@@ -104,7 +104,7 @@ pub fn look_at(file: u64, s: &[u8], order: &[u32]) -> usize
     kind
 }
 
-// The first entry of an index whose key isn't below x, or how many entries there are.
+// inner: the first entry of an index whose key isn't below x, or how many entries there are
 pub fn lower(file: u64, s: &[u8], order: &[u32], x: Key) -> usize
     requires { ⌜ KeyFile file (now s) × IsIndex file (now s) (now order) × (x .lo < none) ⌝ }
     ensures { λ r. ⌜ Lower file (now (s .entry)) (now (order .entry)) (rankKey x) r ⌝ }

@@ -40,7 +40,7 @@ fn number_at(s: &[u8], at: usize) -> Number
     Number { value: v, end: i }
 }
 
-// The key of the record that starts at `at`: its first field in files 2 to 5, its first two in files 6, 7 and 9, its first three in files 8
+// inner: the key of the record that starts at `at`: its first field in files 2 to 5, its first two in files 6, 7 and 9, its first three in files 8
 // and 10.
 pub fn key_at(file: u64, s: &[u8], at: usize) -> Key
     requires { ⌜ KeyAt file (now s) at ⌝ }
@@ -65,7 +65,7 @@ pub fn key_at(file: u64, s: &[u8], at: usize) -> Key
     }
 }
 
-// Whether x is below y.
+// inner: whether x is below y
 pub fn less(x: Key, y: Key) -> bool
     requires { ⌜ (x .lo < none) × (y .lo < none) ⌝ }
     ensures { λ r. ⌜ r ≡ ltb (rankKey x) (rankKey y) ⌝ }
@@ -76,7 +76,7 @@ pub fn less(x: Key, y: Key) -> bool
     x.lo < y.lo
 }
 
-// Whether they are one key.
+// inner: whether they are one key
 pub fn equal(x: Key, y: Key) -> bool
     requires { ⌜ (x .lo < none) × (y .lo < none) ⌝ }
     ensures { λ r. ⌜ r ≡ eqb (rankKey x) (rankKey y) ⌝ }

@@ -27,7 +27,7 @@ fn next_of(file: u64, s: &[u8], at: usize) -> usize
     record_after(s, at, fields_of(file))
 }
 
-// Whether every key is above those before it.
+// inner: whether every key is above those before it
 pub fn rising(file: u64, s: &[u8]) -> bool
     requires { ⌜ KeyFile file (now s) ⌝ }
     ensures { λ r. ⌜ r ≡ isRising (rankOf file) (recordsIn (fieldsOf file) (now (s .entry))) ⌝ }

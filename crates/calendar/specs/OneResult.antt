@@ -6,15 +6,10 @@ use Prim.Native.Nat.{ℕ}
 use native.Mathlib.Omega.{arith}
 use Rattle.laws.specs.Numbered.{Numbered}
 use Rattle.laws.specs.Settled.{OneToOne}
-use Rattle.calendar.specs.declared.Day.{Day}
 use Rattle.calendar.specs.declared.Day.the-variants.{At, NotReal}
-use Rattle.calendar.specs.declared.Date.{Date}
 use Rattle.calendar.specs.declared.Date.the-variants.{On, NoDate}
-use Rattle.calendar.specs.declared.DayOfWeek.{DayOfWeek}
 use Rattle.calendar.specs.declared.DayOfWeek.the-variants.{Is, NoWeekday}
-use Rattle.calendar.specs.declared.Week.{Week}
 use Rattle.calendar.specs.declared.Week.the-variants.{Counted, NoWeek}
-use Rattle.calendar.specs.declared.Whether.{Whether}
 use Rattle.calendar.specs.declared.Whether.the-variants.{Yes, Not, NoDay}
 use Rattle.calendar.specs.Answers.{bit, numberedDay, numberedDate, numberedWeekday, numberedWeek, numberedWhether}
 

@@ -1,8 +1,7 @@
 -- The buffer of the check program: one file behind the other, `ends` with the place after each. The file before the first has none.
 use mathlib.Core.List.{List}
 use Prim.Native.Nat.{ℕ, _+_, _-_, _≤_, _<_}
-use lib.ListN.{getD}
-use lib.Seq.{slice}
+use lib.ListN.{getD, take, drop}
 use Rattle.thirteen.specs.Batch.{Batch, thirteen}
 use Rattle.jdfcheck.specs.declared.Filled.{Filled}
 
@@ -17,7 +16,7 @@ Stand count size ends = (k : ℕ) → k < count → (getD ends k 0 ≤ getD ends
 
 -- the bytes of a file
 abbrev pub partOf : List ℕ → List ℕ → ℕ → List ℕ
-partOf buf ends file = slice (getD ends (file - 1) 0) (getD ends file 0) buf
+partOf buf ends file = take (getD ends file 0 - getD ends (file - 1) 0) (drop (getD ends (file - 1) 0) buf)
 
 -- the thirteen files
 abbrev pub partsOf : List ℕ → List ℕ → Batch

@@ -61,10 +61,11 @@ fn fill(fd: i32, buf: &mut [u8], from: usize) -> Filled
         if got < 0 {
             return Filled::Failed;
         }
-        if got == 0 {
+        let more = io::count(got, &buf[at..]);
+        if more == 0 {
             return Filled::To(at);
         }
-        at += got as usize;
+        at += more;
     }
     Filled::To(at)
 }
@@ -122,6 +123,7 @@ fn read_numbered(file: usize, buf: &mut [u8], at: usize) -> Filled
 
 // Reads all files, one behind the other; `ends[file]` is the place after each. Whether each was read.
 fn gather(buf: &mut [u8], ends: &mut [usize; 14]) -> bool
+    requires { ⌜ 14 ≤ length (now ends) ⌝ }
     ensures { λ r. ⌜ (r ≡ true → Stand 13 (length (now (buf .entry))) (now (ends .exit))) ⌝ }
 {
     let mut file = 0;

@@ -4,6 +4,7 @@
 #   need_c, need_tests       what C programs over the archive need, and what the tests need besides
 #   kit                      the folder of the Rattle kit that `rt` belongs to
 #   CC, CXX, NM, LINK, RUN   the compilers and nm for x86-64, what they are told when they link, and what runs their programs (arrays)
+#   PROGRAM                  what runs a program of the crates, which is linked with the C library of x86-64: on another machine the kit's own (array)
 #   archive NAME             proves the crate and leaves target/staticlib/libNAME.a
 #   program NAME             proves the program and leaves target/bin/NAME
 #
@@ -55,12 +56,14 @@ if [ "$machine" = x86_64 ]; then
     NM=(nm)
     LINK=()
     RUN=()
+    PROGRAM=()
 else
     CC=(x86_64-linux-gnu-gcc)
     CXX=(x86_64-linux-gnu-g++)
     NM=(x86_64-linux-gnu-nm)
     LINK=(-static)
     RUN=("$kit/on/$machine/toolchain/bin/qemu-x86_64")
+    PROGRAM=("${RUN[@]}" "$kit/on/$machine/toolchain/lib/ld-linux-x86-64.so.2" --library-path "$kit/on/$machine/toolchain/lib")
 fi
 
 quietly() {

@@ -8,7 +8,7 @@ use Rattle.file.specs.Bytes.{ends, undefined, permittedByte}
 use Rattle.file.specs.Files.{fieldCounts, fieldsOf}
 use Rattle.file.specs.Reading.{inText, afterText, stepIn, run, finishedIn, spans, outcomeIn}
 use Rattle.file.specs.Answers.{asked, counted, located, spanOf, stretchIn}
-use Rattle.field.specs.Kinds.{zasspoje, kinds, kindOf, admits}
+use Rattle.field.specs.Kinds.{linky, zasspoje, kinds, kindOf, admits}
 use Rattle.field.specs.Names.{mark}
 use Rattle.field.specs.Values.{isByte, among, isDigit, allDigits, valueFrom, isDateText, isTime}
 use Rattle.keys.proofs.KeyLaws.{same-self}
@@ -22,7 +22,7 @@ unfolding
     asked counted located spanOf stretchIn fieldsOf fieldCounts run stepIn inText afterText finishedIn spans outcomeIn permittedByte undefined ends
     dayAnswer weekdayAnswer weekAnswer isDate months monthDays leap yearDays yearsDays monthsDays dayNumber lastBegun yearOf newYear
     weekday mondayOf thursdayOf thursdays weekOf oddWeek
-    kindOf kinds zasspoje admits isByte among isDigit allDigits valueFrom isDateText isTime
+    kindOf kinds linky zasspoje admits isByte among isDigit allDigits valueFrom isDateText isTime
     typeOf firstByte daysFit twoMarks otherMark twoWeeks oneWithWeeks threeWithOther hasType some
 facts = record {
   p1 = refl;

@@ -188,19 +188,19 @@ get-all keeps none (r ∷ rest) a zero h = a .0
 get-all keeps none (r ∷ rest) a (suc i) h = get-all keeps none rest (a .1) i (omega arith)
 
 -- a stop's minutes are those of its own times
-arrival-is : (last : ℕ) (r : Fields) → minuteOr (arrival r) ≡ pick (arrives r) (arrivalMinute last r) 0
+pub arrival-is : (last : ℕ) (r : Fields) → minuteOr (arrival r) ≡ pick (arrives r) (arrivalMinute last r) 0
 unfolding minuteOr arrives
 arrival-is last r = either (isTime (arrival r)) (λ t. rw (t, arrival-own last r t)) (λ t. rw t)
 
-departure-is : (last : ℕ) (r : Fields) → minuteOr (departure r) ≡ pick (departs r) (departureMinute last r) 0
+pub departure-is : (last : ℕ) (r : Fields) → minuteOr (departure r) ≡ pick (departs r) (departureMinute last r) 0
 unfolding minuteOr departs
 departure-is last r = either (isTime (departure r)) (λ t. rw (t, departure-own last r t)) (λ t. rw t)
 
 module _ (b : Batch) (line trip : ℕ) where
-  abbrev ours : List Fields
+  abbrev pub ours : List Fields
   ours = travelled line trip (recordsOf b 8)
 
-  abbrev signed : Fields → Signed
+  abbrev pub signed : Fields → Signed
   signed r = record { texts = r; signs = tripStopSigns b r }
 
   -- they are as many
@@ -219,10 +219,10 @@ module _ (b : Batch) (line trip : ℕ) where
       (λ t. rw t (all-backward (λ r. ofTrip 8 line trip r ≡ true) (rising (third 8) (select (ofTrip 8 line trip) (recordsOf b 8))) up))
 
   module _ (i : ℕ) (h : i < length ours) where
-    abbrev ith : Fields
+    abbrev pub ith : Fields
     ith = getD ours i []
 
-    ith-is : stopAt (viewOf b line) trip i ≡ signed ith
+    pub ith-is : stopAt (viewOf b line) trip i ≡ signed ith
     unfolding travelled
     ith-is =
         ap (λ (l : List Signed). getD l i nobody) (view-signed-stops b line trip)
@@ -233,7 +233,7 @@ module _ (b : Batch) (line trip : ℕ) where
         let e = stop-fields line trip ith ∙ get-all (λ r. ofTrip 8 line trip r ≡ true) [] ours ours-own i h in
         eqb-true (number 1 ith) line (both-left (eqb (number 1 ith) line) (eqb (number 2 ith) trip) e)
 
-    ith-signs : plainSigns (recordsOf b 3) (recordsOf b 7) ith ≡ stopSigns (viewOf b line) (signed ith)
+    pub ith-signs : plainSigns (recordsOf b 3) (recordsOf b 7) ith ≡ stopSigns (viewOf b line) (signed ith)
     ith-signs = plain-signs b ith ∙ ap (λ (k : ℕ). stopSigns (viewOf b k) (signed ith)) ith-line
 
     halt-view : plainHalt (recordsOf b 3) (recordsOf b 7) ith (some timed (drop (i + 1) ours)) (length ours) ≡ haltOf (viewOf b line) trip i

@@ -72,7 +72,7 @@ module _ (s : List ℕ) (f : KeyFile tripsFile s) (line trip : ℕ) where
       (λ t. t)
 
 -- Spoje's key is its fields 1 and 2
-trip-key : (line trip : ℕ) (q : Fields) → both (eqb (number 1 q) line) (eqb (number 2 q) trip) ≡ same (keyOf tripsFile q) (line ∷ trip ∷ [])
+pub trip-key : (line trip : ℕ) (q : Fields) → both (eqb (number 1 q) line) (eqb (number 2 q) trip) ≡ same (keyOf tripsFile q) (line ∷ trip ∷ [])
 unfolding ofTrip keyFields keyTable numbers
 trip-key line trip q = trip-fields line trip q
 

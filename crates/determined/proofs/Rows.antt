@@ -18,6 +18,12 @@ use Rattle.counter.specs.OneResult.{runs-one}
 use Rattle.calls.specs.Answers.{stopAnswer}
 use Rattle.calls.specs.Numbers.{numberedStop}
 use Rattle.calls.specs.OneResult.{stop-one}
+use Rattle.sale.specs.Answers.{numberedSale, saleAnswer}
+use Rattle.sale.specs.OneResult.{sale-one}
+use Rattle.sales.specs.Sales.{numberedSales, salesAnswer, salesList}
+use Rattle.sales.specs.OneResult.{sales-one}
+use Rattle.naming.specs.Names.{numberedNamed, nameAnswer}
+use Rattle.naming.specs.OneResult.{named-one}
 use Rattle.fileresults.specs.Results.{writeResult}
 use Rattle.determined.specs.Table.{Determined}
 
@@ -37,6 +43,9 @@ determined = record {
   check = λ b. settled numberedVerdict verdict-one (verdictOf b);
   runs = λ b line trip d holidays. settled numberedRuns runs-one (runsAnswer b line trip d holidays);
   trip-stop = λ b line trip n. settled numberedStop stop-one (stopAnswer b line trip n);
+  may-sell = λ b line trip day month year from to holidays. settled numberedSale sale-one (saleAnswer b line trip day month year from to holidays);
+  many-sales = λ b holidays asked list. settled-both _ _ (settled numberedSales sales-one (salesAnswer b asked (length list))) (settled-self (salesList b holidays asked list));
+  stop-named = λ b town part place. settled numberedNamed named-one (nameAnswer b town part place);
   slovdrim-day = λ d m y. settled-self _;
   slovdrim-date = λ n. settled-self _;
   slovdrim-weekday = λ n. settled-self _;

@@ -13,6 +13,10 @@ use Rattle.fields.specs.Check.{CheckedIs}
 use Rattle.batch.specs.Verdicts.{VerdictIs}
 use Rattle.counter.specs.Numbers.{RunsIs}
 use Rattle.calls.specs.Numbers.{StopIs}
+use Rattle.sale.specs.Answers.{SaleIs}
+use Rattle.sales.specs.Sales.{SalesIs}
+use Rattle.sales.specs.declared.Sales.{Sales}
+use Rattle.naming.specs.Names.{NameIs}
 use Rattle.fileresults.specs.Results.{RecordsGives, StretchGives, WriteGives}
 use Rattle.dayresults.specs.Results.{DayGives, DateGives, WeekdayGives, WeekGives, HolidayGives, FitsGives}
 use Rattle.checkresults.specs.Results.{FieldsGives, CheckGives}
@@ -39,6 +43,10 @@ pub record Determined : Type 0 where
   -- the questions
   pub runs : (b : Batch) (line trip d : ℕ) (holidays : List ℕ) → Settled (RunsIs b line trip d holidays)
   pub trip-stop : (b : Batch) (line trip n : ℕ) → Settled (StopIs b line trip n)
+  pub may-sell : (b : Batch) (line trip day month year from to : ℕ) (holidays : List ℕ) → Settled (SaleIs b line trip day month year from to holidays)
+  -- many sale questions: the answer, and what the lent list holds afterwards
+  pub many-sales : (b : Batch) (holidays asked list : List ℕ) → Settled (λ (r : Sales × List ℕ). SalesIs b holidays asked list (r .0) (r .1))
+  pub stop-named : (b : Batch) (town part place : Text) → Settled (NameIs b town part place)
   -- the same calls for C; a hinted one promises what the plain one does, whatever list it is lent
   pub slovdrim-day : (d m y : ℕ) → Settled (DayGives d m y)
   pub slovdrim-date : (n : ℕ) → Settled (DateGives n)

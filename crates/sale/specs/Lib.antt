@@ -1,0 +1,4 @@
+pub mod Sale
+pub mod Answers
+pub mod OneResult
+pub mod Plain

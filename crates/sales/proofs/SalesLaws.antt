@@ -1,4 +1,4 @@
--- Laws of many questions: one turn of the loop over them, the end of it, and how many there are.
+-- Laws of many questions: one turn of the loop over them, the end of it, how many there are, and what comes back of a batch.
 use mathlib.Core.Path.{_≡_, refl, sym, ap, _∙_}
 use mathlib.Core.Bool.{Bool, true, false, not}
 use mathlib.Core.List.{List, [], _∷_, _++_}
@@ -97,6 +97,16 @@ questions-all (a ∷ b ∷ c ∷ d ∷ e ∷ []) = (omega arith, omega arith)
 questions-all (a ∷ b ∷ c ∷ d ∷ e ∷ f ∷ []) = (omega arith, omega arith)
 questions-all (a ∷ b ∷ c ∷ d ∷ e ∷ f ∷ g ∷ more) = let k = questions-all more in (omega (arith, k .0), omega (arith, k .1))
 
+-- as the code counts them, and whether their answers fit
+pub count-is : (s : List ℕ) → length s / 7 ≡ questions s
+count-is s = omega (arith, questions-all s .0, questions-all s .1)
+
+pub fits : (s list : List ℕ) → length s / 7 ≤ length list / 3 → 3 * questions s ≤ length list
+fits s list h = omega (arith, count-is s)
+
+pub fits-not : (s list : List ℕ) → length list / 3 < length s / 7 → length list < 3 * questions s
+fits-not s list h = omega (arith, count-is s)
+
 -- THE LOOP, at place i of the questions and place `at` of the list d.
 module _ (ask : Ask) (s d : List ℕ) (i at : ℕ) where
   -- a turn: with one answer laid, the rest of the answers give the same list
@@ -108,16 +118,6 @@ module _ (ask : Ask) (s d : List ℕ) (i at : ℕ) where
   -- the end: the list is as it should be
   pub laid-all : length s ≤ i + 6 → {whole : List ℕ} → splice d at (rows ask (drop i s)) ≡ whole → d ≡ whole
   laid-all h e = sym (splice-none d at) ∙ rw (← rows-few ask (drop i s) (simp length-drop (omega arith))) e
-
--- HOW MANY, as the code counts them, and whether their answers fit.
-pub count-is : (s : List ℕ) → length s / 7 ≡ questions s
-count-is s = omega (arith, questions-all s .0, questions-all s .1)
-
-pub fits : (s list : List ℕ) → length s / 7 ≤ length list / 3 → 3 * questions s ≤ length list
-fits s list h = omega (arith, count-is s)
-
-pub fits-not : (s list : List ℕ) → length list / 3 < length s / 7 → length list < 3 * questions s
-fits-not s list h = omega (arith, count-is s)
 
 -- A BATCH, the questions, and the lent list.
 module _ (b : Batch) (holidays asked list : List ℕ) where

@@ -28,7 +28,7 @@ Ask = ℕ → ℕ → ℕ → ℕ → ℕ → ℕ → ℕ → Numbered
 abbrev pub rowAt : Ask → List ℕ → ℕ → List ℕ
 rowAt ask s i = row (ask (getD s i 0) (getD s (i + 1) 0) (getD s (i + 2) 0) (getD s (i + 3) 0) (getD s (i + 4) 0) (getD s (i + 5) 0) (getD s (i + 6) 0))
 
--- how many questions there are
+-- how many questions there are: seven numbers each
 unfoldable pub questions : List ℕ → ℕ
 questions (a ∷ b ∷ c ∷ d ∷ e ∷ f ∷ g ∷ more) = suc (questions more)
 questions [] = 0

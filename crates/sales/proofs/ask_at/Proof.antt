@@ -1,8 +1,8 @@
 -- `sales::ask_at` meets its contract: the seven numbers from place i on are asked, and the answer's three numbers taken.
 use mathlib.Core.Path.{sym, ap, _∙_}
+use borrow.Author.Needs.{needs}
 use Rattle.laws.specs.Numbered.{Numbered}
 use Rattle.sales.specs.Sales.{row}
-use borrow.Author.Needs.{needs}
 use Rattle.sales.proofs.ask_at.Statement.{statement}
 use Rattle.sales.proofs.ask_at.Tie as tie
 

@@ -2,8 +2,8 @@
 use native.Mathlib.Omega.{arith}
 use denote.Ref.{now}
 use lib.ListN.{length-set}
-use Rattle.sales.proofs.SalesLaws.{three-stores}
 use borrow.Author.Needs.{needs}
+use Rattle.sales.proofs.SalesLaws.{three-stores}
 use Rattle.sales.proofs.put_row.Statement.{statement}
 use Rattle.sales.proofs.put_row.Tie as tie
 

@@ -2,8 +2,8 @@
  * slovdrim.h: the C interface of Slovdrim, a proved library for Czech bus timetables in the JDF 1.8 format.
  *
  * This version reads and writes the bytes of one file of a batch, checks its fields, checks a whole batch, says on which days a trip of it runs and
- * where and when it calls, and counts days. Each call answers exactly what its comment says, for every input, or comes back with one numbered
- * refusal; nothing is guessed and nothing is repaired.
+ * where and when it calls, whether a ticket may be sold, which stop has a name, and counts days. Each call answers exactly what its comment says, for
+ * every input, or comes back with one numbered refusal; nothing is guessed and nothing is repaired.
  *
  * For all calls:
  *
@@ -14,10 +14,10 @@
  *  - Any number may be passed for a file, record, field, place, line, trip, stop, day, month or year. Those that name nothing are refused, never
  *    undefined; any byte may be passed for a sign.
  *  - A pointer is lent for the time of the call: the library keeps no pointer, allocates nothing and frees nothing. `length` bytes (or `count` numbers)
- *    from the pointer on must be readable, and for `buffer` writable. NULL is allowed where the length or count is 0. A pointer to uint64_t or
+ *    from the pointer on must be readable, and for `buffer` and `list` writable. NULL is allowed where the length or count is 0. A pointer to uint64_t or
  *    uint32_t must be aligned for it.
  *  - Lent bytes must not change during a call, by another thread or otherwise. Memory lent as const is never written to.
- *    `buffer` must not overlap `text`. Two inputs of a call may overlap.
+ *    `buffer` must not overlap `text`, and `list` must not overlap anything else that is lent. Two inputs of a call may overlap.
  *  - The library has no state at all: no globals, no set-up, no locks, no errno. Calls may be made from any number of threads at once, and from
  *    a signal handler.
  *
@@ -76,9 +76,17 @@ extern "C" {
 #define SLOVDRIM_STOPS_WRONG 11     /* a trip's stops, times or kilometres are wrong; place: file 6, record of the trip */
 #define SLOVDRIM_NO_SUCH_DAY 12     /* a date that isn't real or not of 1900-2099, or a day number past SLOVDRIM_LAST_DAY; no place */
 #define SLOVDRIM_NO_SUCH_TRIP 13    /* no trip of this line and number; no place */
+#define SLOVDRIM_NO_SUCH_TARIFF 14  /* one of the two tariff numbers isn't among the trip's records; no place */
+#define SLOVDRIM_DOES_NOT_RUN 15    /* the trip doesn't run that day; no place */
+#define SLOVDRIM_NOT_BEFORE 16      /* the first stop isn't before the second in travel order; no place */
+#define SLOVDRIM_NO_DEPARTURE 17    /* the first stop has no departure time, or ( or $; no place */
+#define SLOVDRIM_NO_ARRIVAL 18      /* the second stop has no time, or ) or $; no place */
+#define SLOVDRIM_NOT_CARRIED 19     /* both stops have the sign 0xA7; no place */
 #define SLOVDRIM_NO_SUCH 20         /* no such file, record, field or stop; no place */
 #define SLOVDRIM_TEXT_NOT_PERMITTED 21 /* the text can't stand in a field; no place */
-#define SLOVDRIM_NO_ROOM 22         /* the field doesn't fit into the buffer from the place on; no place */
+#define SLOVDRIM_NO_ROOM 22         /* the field doesn't fit into the buffer from the place on, or the answers into the list; no place */
+#define SLOVDRIM_NO_SUCH_NAME 23    /* no stop has this name; no place */
+#define SLOVDRIM_SEVERAL_NAMED 24   /* several stops have this name; no place, but how many they are */
 
 /*
  * The bytes of a file.
@@ -377,6 +385,137 @@ slovdrim_trip_stop_answer slovdrim_trip_stop(const uint8_t *verzejdf, size_t ver
                                              uint64_t line, uint64_t trip, uint64_t nth);
 
 /*
+ * The counter: may a ticket be sold, and which stop has a name. The batch is checked first, as for the questions about trips.
+ */
+
+typedef struct {
+    uint64_t number;
+    uint64_t file;
+    uint64_t record;
+    uint64_t field;
+    uint64_t offset;
+    uint64_t departure;
+    uint64_t arrival;
+} slovdrim_sale_answer;
+
+/*
+ * A sale: on the trip of this line and number, on this date, from the stop with the tariff number `from` to the one with the tariff number `to`. The numbers
+ * may be any at all. `holidays` are `holiday_count` day numbers, as for slovdrim_runs.
+ *
+ *   SLOVDRIM_ANSWER          the ticket may be sold. `departure` is the minute of the day, 0 to 1439, of the departure at the first stop; `arrival` that of the
+ *                            arrival at the second or, if no arrival is given there, of the departure.
+ *   the batch's own refusal  number and place as slovdrim_check gives them.
+ *   SLOVDRIM_NO_SUCH_DAY     the date isn't real or isn't of 1900-2099.
+ *   SLOVDRIM_NO_SUCH_TRIP    no trip of this line and number.
+ *   SLOVDRIM_NO_SUCH_TARIFF  `from` or `to` isn't among the tariff numbers of the trip's records.
+ *   SLOVDRIM_DOES_NOT_RUN    the trip doesn't run on this date (see slovdrim_runs).
+ *   SLOVDRIM_NOT_BEFORE      the first stop isn't before the second in travel order; so it is too where they are one.
+ *   SLOVDRIM_NO_DEPARTURE    the first stop has no departure time, or it has ( or $ among its signs (see slovdrim_trip_stop).
+ *   SLOVDRIM_NO_ARRIVAL      the second stop has neither time, or it has ) or $ among its signs.
+ *   SLOVDRIM_NOT_CARRIED     both stops have 0xA7 among their signs.
+ *
+ * The first that applies, in this order. Both minutes are 0 with every refusal, and a refusal that isn't the batch's has no place.
+ */
+slovdrim_sale_answer slovdrim_sale(const uint8_t *verzejdf, size_t verzejdf_length, const uint8_t *zastavky, size_t zastavky_length,
+                                   const uint8_t *pevnykod, size_t pevnykod_length, const uint8_t *dopravci, size_t dopravci_length,
+                                   const uint8_t *linky, size_t linky_length, const uint8_t *spoje, size_t spoje_length,
+                                   const uint8_t *zaslinky, size_t zaslinky_length, const uint8_t *zasspoje, size_t zasspoje_length,
+                                   const uint8_t *udaje, size_t udaje_length, const uint8_t *caskody, size_t caskody_length,
+                                   const uint8_t *altdop, size_t altdop_length, const uint8_t *altlinky, size_t altlinky_length,
+                                   const uint8_t *mistenky, size_t mistenky_length,
+                                   const uint64_t *holidays, size_t holiday_count, uint64_t line, uint64_t trip,
+                                   uint64_t day, uint64_t month, uint64_t year, uint64_t from, uint64_t to);
+
+/*
+ * The same answer as slovdrim_sale, for every list `order`, which can only make the check faster: see slovdrim_check_hinted.
+ */
+slovdrim_sale_answer slovdrim_sale_hinted(const uint8_t *verzejdf, size_t verzejdf_length, const uint8_t *zastavky, size_t zastavky_length,
+                                          const uint8_t *pevnykod, size_t pevnykod_length, const uint8_t *dopravci, size_t dopravci_length,
+                                          const uint8_t *linky, size_t linky_length, const uint8_t *spoje, size_t spoje_length,
+                                          const uint8_t *zaslinky, size_t zaslinky_length, const uint8_t *zasspoje, size_t zasspoje_length,
+                                          const uint8_t *udaje, size_t udaje_length, const uint8_t *caskody, size_t caskody_length,
+                                          const uint8_t *altdop, size_t altdop_length, const uint8_t *altlinky, size_t altlinky_length,
+                                          const uint8_t *mistenky, size_t mistenky_length,
+                                          const uint32_t *order, size_t order_count,
+                                          const uint64_t *holidays, size_t holiday_count, uint64_t line, uint64_t trip,
+                                          uint64_t day, uint64_t month, uint64_t year, uint64_t from, uint64_t to);
+
+typedef struct {
+    uint64_t number;
+    uint64_t file;
+    uint64_t record;
+    uint64_t field;
+    uint64_t offset;
+    uint64_t answered;
+} slovdrim_sales_answer;
+
+/*
+ * Many sales with one check of the batch. `asked` holds the questions, seven numbers each: line, trip, day, month, year, from, to. Fewer than seven numbers at
+ * the end are no question. `list` takes the answers, three numbers each, from its start on and in the order of the questions: number, departure and
+ * arrival, each as slovdrim_sale answers the question; departure and arrival are 0 with a refusal.
+ *
+ *   SLOVDRIM_ANSWER          `answered` is the number of questions; their answers are in `list`, and the rest of `list` is as it was.
+ *   the batch's own refusal  number and place as slovdrim_check gives them.
+ *   SLOVDRIM_NO_ROOM         `list_count` is less than three times the number of questions.
+ *
+ * The first that applies, in this order. With either refusal no byte of `list` changes and `answered` is 0. `order` is as for slovdrim_check_hinted.
+ */
+slovdrim_sales_answer slovdrim_sales(const uint8_t *verzejdf, size_t verzejdf_length, const uint8_t *zastavky, size_t zastavky_length,
+                                     const uint8_t *pevnykod, size_t pevnykod_length, const uint8_t *dopravci, size_t dopravci_length,
+                                     const uint8_t *linky, size_t linky_length, const uint8_t *spoje, size_t spoje_length,
+                                     const uint8_t *zaslinky, size_t zaslinky_length, const uint8_t *zasspoje, size_t zasspoje_length,
+                                     const uint8_t *udaje, size_t udaje_length, const uint8_t *caskody, size_t caskody_length,
+                                     const uint8_t *altdop, size_t altdop_length, const uint8_t *altlinky, size_t altlinky_length,
+                                     const uint8_t *mistenky, size_t mistenky_length,
+                                     const uint32_t *order, size_t order_count,
+                                     const uint64_t *holidays, size_t holiday_count, const uint64_t *asked, size_t asked_count,
+                                     uint64_t *list, size_t list_count);
+
+typedef struct {
+    uint64_t number;
+    uint64_t file;
+    uint64_t record;
+    uint64_t field;
+    uint64_t offset;
+    uint64_t value;
+} slovdrim_stop_answer;
+
+/*
+ * A stop by its name: the one whose town, part and place (Zastavky's fields 2, 3 and 4) equal these three byte strings, byte for byte, in CP1250. An
+ * empty string equals an empty field only, and any bytes may be asked for.
+ *
+ *   SLOVDRIM_ANSWER          `value` is the stop's number.
+ *   the batch's own refusal  number and place as slovdrim_check gives them.
+ *   SLOVDRIM_NO_SUCH_NAME    no stop has this name.
+ *   SLOVDRIM_SEVERAL_NAMED   several have it: `value` is how many.
+ *
+ * The first that applies, in this order.
+ */
+slovdrim_stop_answer slovdrim_stop(const uint8_t *verzejdf, size_t verzejdf_length, const uint8_t *zastavky, size_t zastavky_length,
+                                   const uint8_t *pevnykod, size_t pevnykod_length, const uint8_t *dopravci, size_t dopravci_length,
+                                   const uint8_t *linky, size_t linky_length, const uint8_t *spoje, size_t spoje_length,
+                                   const uint8_t *zaslinky, size_t zaslinky_length, const uint8_t *zasspoje, size_t zasspoje_length,
+                                   const uint8_t *udaje, size_t udaje_length, const uint8_t *caskody, size_t caskody_length,
+                                   const uint8_t *altdop, size_t altdop_length, const uint8_t *altlinky, size_t altlinky_length,
+                                   const uint8_t *mistenky, size_t mistenky_length,
+                                   const uint8_t *town, size_t town_length, const uint8_t *part, size_t part_length,
+                                   const uint8_t *place, size_t place_length);
+
+/*
+ * The same answer as slovdrim_stop, for every list `order`, which can only make the check faster: see slovdrim_check_hinted.
+ */
+slovdrim_stop_answer slovdrim_stop_hinted(const uint8_t *verzejdf, size_t verzejdf_length, const uint8_t *zastavky, size_t zastavky_length,
+                                          const uint8_t *pevnykod, size_t pevnykod_length, const uint8_t *dopravci, size_t dopravci_length,
+                                          const uint8_t *linky, size_t linky_length, const uint8_t *spoje, size_t spoje_length,
+                                          const uint8_t *zaslinky, size_t zaslinky_length, const uint8_t *zasspoje, size_t zasspoje_length,
+                                          const uint8_t *udaje, size_t udaje_length, const uint8_t *caskody, size_t caskody_length,
+                                          const uint8_t *altdop, size_t altdop_length, const uint8_t *altlinky, size_t altlinky_length,
+                                          const uint8_t *mistenky, size_t mistenky_length,
+                                          const uint32_t *order, size_t order_count,
+                                          const uint8_t *town, size_t town_length, const uint8_t *part, size_t part_length,
+                                          const uint8_t *place, size_t place_length);
+
+/*
  * The version of this interface: SLOVDRIM_VERSION of the header that the library was made with. It never refuses.
  */
 #define SLOVDRIM_VERSION 3
@@ -471,6 +610,9 @@ SLOVDRIM_LAYOUT(sizeof(slovdrim_fields_answer) == 40 && offsetof(slovdrim_fields
 SLOVDRIM_LAYOUT(sizeof(slovdrim_check_answer) == 72 && offsetof(slovdrim_check_answer, trip_stops) == 64, "layout of slovdrim_check_answer");
 SLOVDRIM_LAYOUT(sizeof(slovdrim_runs_answer) == 48 && offsetof(slovdrim_runs_answer, runs) == 40, "layout of slovdrim_runs_answer");
 SLOVDRIM_LAYOUT(sizeof(slovdrim_trip_stop_answer) == 112 && offsetof(slovdrim_trip_stop_answer, stops) == 104, "layout of slovdrim_trip_stop_answer");
+SLOVDRIM_LAYOUT(sizeof(slovdrim_sale_answer) == 56 && offsetof(slovdrim_sale_answer, arrival) == 48, "layout of slovdrim_sale_answer");
+SLOVDRIM_LAYOUT(sizeof(slovdrim_sales_answer) == 48 && offsetof(slovdrim_sales_answer, answered) == 40, "layout of slovdrim_sales_answer");
+SLOVDRIM_LAYOUT(sizeof(slovdrim_stop_answer) == 48 && offsetof(slovdrim_stop_answer, value) == 40, "layout of slovdrim_stop_answer");
 SLOVDRIM_LAYOUT(sizeof(slovdrim_day_answer) == 16 && offsetof(slovdrim_day_answer, day) == 8, "layout of slovdrim_day_answer");
 SLOVDRIM_LAYOUT(sizeof(slovdrim_date_answer) == 32 && offsetof(slovdrim_date_answer, year) == 24, "layout of slovdrim_date_answer");
 SLOVDRIM_LAYOUT(sizeof(slovdrim_weekday_answer) == 16 && offsetof(slovdrim_weekday_answer, weekday) == 8, "layout of slovdrim_weekday_answer");

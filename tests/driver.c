@@ -167,7 +167,12 @@ void about_to(const char *call, uint64_t a, uint64_t b, uint64_t c, int where, c
 
 static int on_a_batch(const char *call)
 {
-    return strncmp(call, "slovdrim_check", 14) == 0 || strcmp(call, "slovdrim_runs") == 0 || strcmp(call, "slovdrim_trip_stop") == 0;
+    static const char *const calls[] = {"slovdrim_check", "slovdrim_runs", "slovdrim_trip_stop", "slovdrim_sale", "slovdrim_stop"};
+    size_t i;
+    for (i = 0; i < sizeof calls / sizeof *calls; i++)
+        if (strncmp(call, calls[i], strlen(calls[i])) == 0)
+            return 1;
+    return 0;
 }
 
 static void crashed(int sig, siginfo_t *info, void *context)
@@ -260,17 +265,16 @@ static void huge_request(void)
 
 /* The writer */
 
-/* Bytes beside a buffer, inside its room, that must not change either. */
 enum { BESIDE = 64 };
 
-static void set_beside(uint8_t *own, size_t at, size_t length, uint8_t value)
+void set_beside(uint8_t *own, size_t at, size_t length, uint8_t value)
 {
     size_t before = at < BESIDE ? at : BESIDE, after = ROOM - (at + length) < BESIDE ? ROOM - (at + length) : BESIDE;
     memset(own + at - before, value, before);
     memset(own + at + length, value, after);
 }
 
-static int beside_changed(const uint8_t *own, size_t at, size_t length, uint8_t value)
+int beside_changed(const uint8_t *own, size_t at, size_t length, uint8_t value)
 {
     size_t i, before = at < BESIDE ? at : BESIDE, after = ROOM - (at + length) < BESIDE ? ROOM - (at + length) : BESIDE;
     for (i = 0; i < before; i++)
@@ -490,7 +494,7 @@ int main(void)
             give_words(&version, 1);
             break;
         default:
-            if (!days_request(letter) && !fields_request(letter) && !batch_request(letter) && !trips_request(letter))
+            if (!days_request(letter) && !fields_request(letter) && !batch_request(letter) && !trips_request(letter) && !sales_request(letter))
                 give_up("a request that it doesn't know");
         }
     }

@@ -1,5 +1,5 @@
-/* What driver.c, driver_days.c, driver_fields.c, driver_batch.c and driver_trips.c share: the pipes, the rooms that lent memory stands in, and what is said when
-   a call touches what it was not lent. */
+/* What driver.c, driver_days.c, driver_fields.c, driver_batch.c, driver_trips.c and driver_sales.c share: the pipes, the rooms that lent memory stands in, and what
+   is said when a call touches what it was not lent. */
 #ifndef SLOVDRIM_DRIVER_H
 #define SLOVDRIM_DRIVER_H
 
@@ -32,8 +32,12 @@ const uint8_t *lent_at(const struct lent *l, enum placing where);
 /* NULL is lent too where there are no bytes. */
 int placings(const struct lent *l);
 
-/* The file that request L brought last, and the list of request l. */
-extern struct lent file_bytes, holidays;
+/* Bytes beside what may be written to, inside its room, that must not change either. */
+void set_beside(uint8_t *own, size_t at, size_t length, uint8_t value);
+int beside_changed(const uint8_t *own, size_t at, size_t length, uint8_t value);
+
+/* The file that request L brought last, the list of request l, and that of request O. */
+extern struct lent file_bytes, holidays, order;
 
 uint64_t take_word(void);
 void take_bytes(uint8_t *to, size_t length);
@@ -60,6 +64,9 @@ int batch_request(uint8_t letter);
 
 /* One request on a trip of a batch; 0 if the letter is none of its own. */
 int trips_request(uint8_t letter);
+
+/* One request on a sale or on a stop's name; 0 if the letter is none of its own. */
+int sales_request(uint8_t letter);
 
 /* The thirteen files of the call under way. */
 enum { FILES = 13 };

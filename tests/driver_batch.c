@@ -10,7 +10,8 @@
 #include "../host/slovdrim.h"
 
 /* The thirteen files that request B brought last, and the list of request O. */
-static struct lent files[FILES], order;
+static struct lent files[FILES];
+struct lent order;
 
 struct batch batch;
 

@@ -367,14 +367,27 @@ impl Batch {
         b
     }
 
-    fn stops_of_plans(&mut self, m: &mut Maker, plans: &[Plan]) {
-        let stops: BTreeSet<u64> = plans.iter().flat_map(|p| p.halts.iter().map(|h| h.stop)).collect();
-        for &stop in &stops {
+    /// So many stops, and nothing else that a batch needn't have.
+    pub fn of_stops(m: &mut Maker, count: usize) -> Batch {
+        let mut b = Batch::of_nothing();
+        b.known.stops = different(&mut m.r, count, 1_000_000_000);
+        b.write_stops(m);
+        b
+    }
+
+    /// The records of the stops that are known.
+    fn write_stops(&mut self, m: &mut Maker) {
+        for stop in self.known.stops.clone() {
             let record = self.write_row(m, 2, true, &[stop], &[]);
             record[1] = b"A".to_vec();
             record[5] = b"SK".to_vec();
         }
+    }
+
+    fn stops_of_plans(&mut self, m: &mut Maker, plans: &[Plan]) {
+        let stops: BTreeSet<u64> = plans.iter().flat_map(|p| p.halts.iter().map(|h| h.stop)).collect();
         self.known.stops = stops.into_iter().collect();
+        self.write_stops(m);
         // what Zaslinky says of the stop itself isn't the trip's
         let halts: BTreeMap<(u64, u64), &Halt> = plans.iter().flat_map(|p| p.halts.iter().map(move |h| ((p.line, h.tariff), h))).collect();
         for ((line, tariff), h) in halts {

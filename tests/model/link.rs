@@ -11,6 +11,7 @@ use std::thread::JoinHandle;
 use crate::fields::name_of;
 use crate::hints::PLAIN;
 use crate::links::Bytes;
+use crate::sales::{Name, Question};
 use crate::sweep::{Swept, NUMBERS};
 
 /// A call of the library, as it is named in a report.
@@ -37,7 +38,14 @@ pub enum Call {
     /// `ways`: what decided the answer.
     Runs { batch: Arc<Bytes>, line: u64, trip: u64, day: u64, holidays: Arc<Vec<u64>>, ways: Vec<String> },
     TripStop { batch: Arc<Bytes>, line: u64, trip: u64, nth: u64, ways: Vec<String> },
+    /// `hint`: its kind and numbers; PLAIN for the plain call. `counts`: how often each thing was asked for.
+    Sale { batch: Arc<Bytes>, hint: Hint, holidays: Arc<Vec<u64>>, question: Question, counts: Counts },
+    Sales { batch: Arc<Bytes>, hint: Hint, holidays: Arc<Vec<u64>>, asked: Arc<Vec<u64>>, room: usize, counts: Counts },
+    StopName { batch: Arc<Bytes>, hint: Hint, name: Name, counts: Counts },
 }
+
+pub type Hint = (&'static str, Arc<Vec<u32>>);
+pub type Counts = BTreeMap<String, u64>;
 
 /// What a question on the fields of a file was made for; the run counts how often each met each number.
 #[derive(Clone, Copy, PartialEq, Eq, PartialOrd, Ord)]
@@ -157,6 +165,11 @@ impl Call {
             Call::Check { .. } => "slovdrim_check_hinted",
             Call::Runs { .. } => "slovdrim_runs",
             Call::TripStop { .. } => "slovdrim_trip_stop",
+            Call::Sale { hint, .. } if hint.0 == PLAIN => "slovdrim_sale",
+            Call::Sale { .. } => "slovdrim_sale_hinted",
+            Call::Sales { .. } => "slovdrim_sales",
+            Call::StopName { hint, .. } if hint.0 == PLAIN => "slovdrim_stop",
+            Call::StopName { .. } => "slovdrim_stop_hinted",
         }
     }
 
@@ -185,6 +198,32 @@ impl Call {
                 begin + &told_files(batch, None)
             }
             Call::TripStop { batch, line, trip, nth, .. } => format!("{} line {} trip {} stop {}", name, line, trip, nth) + &told_files(batch, None),
+            Call::Sale { batch, hint, holidays, question, .. } => {
+                let begin = format!("{} {:?} in {:?}, hint: {} {:?}", name, question, &holidays[..holidays.len().min(50)], hint.0, &hint.1[..hint.1.len().min(200)]);
+                begin + &told_files(batch, None)
+            }
+            Call::Sales { batch, hint, holidays, asked, room, .. } => {
+                let begin = format!("{} {} numbers, room for {}, in {:?}, hint: {}", name, asked.len(), room, &holidays[..holidays.len().min(50)], hint.0);
+                let asked: Vec<String> = asked.chunks(7).take(12).map(|q| format!("\n  asked {:?}", q)).collect();
+                begin + &asked.concat() + &told_files(batch, None)
+            }
+            Call::StopName { batch, hint, name: asked, .. } => {
+                let begin = format!("{} {} | {} | {}, hint: {} {:?}", name, hex(&asked[0]), hex(&asked[1]), hex(&asked[2]), hint.0, &hint.1[..hint.1.len().min(200)]);
+                begin + &told_files(batch, None)
+            }
+        }
+    }
+
+    /// Of a list of answers: the first question that was answered otherwise.
+    fn first_unlike(&self, held: &[u8], wanted: &[u8]) -> String {
+        let words = |bytes: &[u8]| bytes.chunks_exact(8).map(|w| u64::from_le_bytes(w.try_into().unwrap())).collect::<Vec<u64>>();
+        let (held, wanted) = (words(held), words(wanted));
+        match self {
+            Call::Sales { asked, .. } => (0..held.len() / 3).find(|i| held[3 * i..3 * i + 3] != wanted[3 * i..3 * i + 3]).map_or(String::new(), |i| {
+                let question = asked.chunks_exact(7).nth(i).unwrap_or(&[]);
+                format!("\n  question {} {:?}\n  library {:?}\n  model   {:?}", i, question, &held[3 * i..3 * i + 3], &wanted[3 * i..3 * i + 3])
+            }),
+            _ => String::new(),
         }
     }
 
@@ -197,12 +236,29 @@ impl Call {
         }
     }
 
+    /// The same where one call asks for much.
+    fn counts(&self) -> Option<&Counts> {
+        match self {
+            Call::Sale { counts, .. } | Call::Sales { counts, .. } | Call::StopName { counts, .. } => Some(counts),
+            _ => None,
+        }
+    }
+
+    /// How many answers are compared: of many sales each, and the call's own.
+    fn answers(&self, words: &[u64]) -> u64 {
+        match self {
+            Call::Sales { .. } => 1 + words[5],
+            _ => 1,
+        }
+    }
+
     /// What is to be told apart among the answers with one number.
     fn detail(&self, words: &[u64]) -> &'static str {
         let yes = words[1] != 0;
         match (self, words[0]) {
             (Call::Fields { file, .. } | Call::HugeFields { file, .. }, _) if (1..=13).contains(file) => name_of(*file),
             (Call::Check { kind, .. }, _) => kind,
+            (Call::Sale { hint, .. } | Call::Sales { hint, .. } | Call::StopName { hint, .. }, _) => hint.0,
             (Call::Runs { .. }, 0) => ["doesn't run", "runs"][(words[5] != 0) as usize],
             (Call::TripStop { .. }, 0) if words[12] != 0 => "the last",
             (Call::TripStop { .. }, 0) => "another",
@@ -273,10 +329,11 @@ impl Checker {
             self.from_driver.read_exact(&mut held)?;
             same &= held == *buffer;
         }
-        self.report.comparisons += 1;
+        self.report.comparisons += a.call.answers(&a.words);
         if !same {
             let mut what = format!("{}\n  library {:?}\n  model   {:?}", a.call.told(), words, a.words);
             if let Some(buffer) = &a.buffer {
+                what += &a.call.first_unlike(&held, buffer);
                 write!(what, "\n  library left {}\n  model left   {}", hex(&held), hex(buffer)).unwrap();
             }
             self.report.differs(&what);
@@ -295,6 +352,9 @@ impl Checker {
             }
             for way in a.call.ways() {
                 *self.report.ways.entry(way.clone()).or_insert(0) += 1;
+            }
+            for (way, n) in a.call.counts().into_iter().flatten() {
+                *self.report.ways.entry(way.clone()).or_insert(0) += n;
             }
         }
         Ok(())

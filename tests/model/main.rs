@@ -1,9 +1,9 @@
-//! An independent implementation of document 01, "The batch", "Bytes of a file", "Fields", "Days" and "A trip's stops", and its comparison with the library.
+//! An independent implementation of document 01, "The batch", "Bytes of a file", "Fields", "Days", "A trip's stops" and the sale, and its comparison with the library.
 //!
-//!     model compare files|days|fields|links|trips|whole DRIVER ARGUMENTS..   ask the driver everything and compare
-//!     model program FOLDER PROGRAM ARGUMENTS..                               run the check program on batches in this folder, which it makes, and compare
-//!     model almanac                                                          every day of the model's own calendar, a line each
-//!     model samples FOLDER                                                   whether the model accepts each file of a batch, read by itself
+//!     model compare files|days|fields|links|trips|whole|sales DRIVER ARGUMENTS..   ask the driver everything and compare
+//!     model program FOLDER PROGRAM ARGUMENTS..                                     run the check program on batches in this folder, which it makes, and compare
+//!     model almanac                                                                every day of the model's own calendar, a line each
+//!     model samples FOLDER                                                         whether the model accepts each file of a batch, read by itself
 //!
 //! SLOVDRIM_SEED is a number that all batches and files by seed begin from; 0 if it isn't set.
 //!
@@ -32,6 +32,9 @@ mod maker;
 mod plans;
 mod program;
 mod rules;
+mod sale_met;
+mod sale_questions;
+mod sales;
 mod sweep;
 mod trip_faults;
 mod trip_met;
@@ -218,6 +221,22 @@ fn compare_whole(command: &[String]) -> Report {
     report
 }
 
+fn compare_sales(command: &[String]) -> Report {
+    let mut report = Report::default();
+    step(&mut report, command, "small facts", sale_questions::small_facts);
+    step(&mut report, command, "samples", sale_questions::samples);
+    step(&mut report, command, "every two stops", sale_questions::pairs);
+    step(&mut report, command, "every two signs", sale_questions::signs);
+    step(&mut report, command, "all days of a year", sale_questions::years);
+    step(&mut report, command, "dates, real and not", sale_questions::unreal_dates);
+    step(&mut report, command, "numbers far out", sale_questions::far_numbers);
+    step(&mut report, command, "lists of questions", sale_questions::lists);
+    step(&mut report, command, "refused batches", sale_questions::refused);
+    step(&mut report, command, "batches with all their files", sale_questions::whole);
+    step(&mut report, command, "names", sale_questions::names);
+    report
+}
+
 /// Prints how often each answer was met; one that never was is a fault of the run, unless differences have kept it from being met.
 fn told(report: &mut Report, met: &'static [(&'static str, u64, &'static str)], weeks: bool) {
     for key in met {
@@ -287,6 +306,11 @@ fn main() {
             whole::told(&mut report);
             report
         }
+        ["compare", "sales", _, ..] => {
+            let mut report = compare_sales(&arguments[2..]);
+            sale_met::told(&mut report);
+            report
+        }
         ["program", folder, _, ..] => {
             let mut report = program::compare(folder, &arguments[2..]);
             program::told(&mut report);
@@ -300,7 +324,7 @@ fn main() {
             return;
         }
         _ => {
-            eprintln!("model compare files|days|fields|links|trips|whole DRIVER ARGUMENTS.. | model program FOLDER PROGRAM ARGUMENTS.. | model almanac | model samples FOLDER");
+            eprintln!("model compare files|days|fields|links|trips|whole|sales DRIVER ARGUMENTS.. | model program FOLDER PROGRAM ARGUMENTS.. | model almanac | model samples FOLDER");
             std::process::exit(2);
         }
     };

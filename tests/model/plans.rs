@@ -247,6 +247,32 @@ impl Plan {
         }
         [0, 0, 0, 0, 0, h.tariff, h.stop, arrives, arrival, departs, departure, sum, last as u64, self.halts.len() as u64]
     }
+
+    /// What a sale on a real day is to answer, of a plan that stands and runs then or doesn't: number, departure, arrival.
+    pub fn sale_words(&self, runs: bool, from: u64, to: u64) -> [u64; 3] {
+        let place = |tariff: u64| self.halts.iter().position(|h| h.tariff == tariff);
+        let (first, second) = match (place(from), place(to)) {
+            (Some(first), Some(second)) => (first, second),
+            _ => return [14, 0, 0],
+        };
+        if !runs {
+            return [15, 0, 0];
+        }
+        if first >= second {
+            return [16, 0, 0];
+        }
+        let [.., departs, departure, leaving, _, _] = self.stop_words(first + 1);
+        let [.., arrives, arrival, departs_again, later, reaching, _, _] = self.stop_words(second + 1);
+        // ( is 1, ) is 2, 0xa7 is 8, $ is 16
+        match (departs, leaving & 17, arrives + departs_again, reaching & 18, leaving & reaching & 8) {
+            (0, ..) => [17, 0, 0],
+            (_, closed, ..) if closed != 0 => [17, 0, 0],
+            (_, _, 0, ..) => [18, 0, 0],
+            (_, _, _, closed, _) if closed != 0 => [18, 0, 0],
+            (_, _, _, _, 8) => [19, 0, 0],
+            _ => [0, departure, if arrives == 1 { arrival } else { later }],
+        }
+    }
 }
 
 impl Maker {

@@ -120,7 +120,7 @@ impl<'a> Desk<'a> {
 }
 
 /// The first and the last day of a year: those at the ends of the calendar, with 53 weeks and around them, leap years and others.
-fn year(m: &mut Maker, i: usize) -> (usize, usize) {
+pub fn year(m: &mut Maker, i: usize) -> (usize, usize) {
     let years = [2004, 2001, 2005, 1900, 2000, 2099, 2009, 1901 + m.r.below(198) as u64];
     let wanted = years[i % 8];
     let of_year = |d: &crate::calendar::Day| d.year == wanted;
@@ -177,7 +177,7 @@ pub fn plans(m: &mut Maker, count: usize, stops: usize, days: (usize, usize)) ->
 }
 
 /// A few of the stops are enough, so that some are missing.
-fn fewer(r: &mut Random, plan: &mut Plan, left: usize) {
+pub fn fewer(r: &mut Random, plan: &mut Plan, left: usize) {
     while plan.halts.len() > left {
         let at = r.below(plan.halts.len());
         plan.halts.remove(at);
@@ -188,7 +188,7 @@ fn fewer(r: &mut Random, plan: &mut Plan, left: usize) {
 const NOT_OF_DAYS: &[u8] = b"R#@%I{[Os";
 
 /// Day signs that a trip may have, and others among them.
-fn some_signs(r: &mut Random, i: usize) -> Vec<u8> {
+pub fn some_signs(r: &mut Random, i: usize) -> Vec<u8> {
     let weekday = b'1' + (i % 7) as u8;
     let mut signs = match i % 6 {
         0 => Vec::new(),
@@ -203,7 +203,7 @@ fn some_signs(r: &mut Random, i: usize) -> Vec<u8> {
 }
 
 /// Lists of holidays: none, some days, as many again with numbers that are no days, and all days.
-fn some_holidays(r: &mut Random, days: (usize, usize), i: usize) -> Vec<u64> {
+pub fn some_holidays(r: &mut Random, days: (usize, usize), i: usize) -> Vec<u64> {
     let any = |r: &mut Random| (days.0 + r.below(days.1 - days.0 + 1)) as u64;
     match i % 4 {
         0 => Vec::new(),
@@ -214,7 +214,7 @@ fn some_holidays(r: &mut Random, days: (usize, usize), i: usize) -> Vec<u64> {
 }
 
 /// Days of a plan that tell something: at its dates, at its line's, at the holidays, and any of the year.
-fn telling_days(r: &mut Random, plan: &Plan, days: (usize, usize), holidays: &[u64]) -> Vec<u64> {
+pub fn telling_days(r: &mut Random, plan: &Plan, days: (usize, usize), holidays: &[u64]) -> Vec<u64> {
     let dates = plan.codes.iter().flat_map(|c| [c.from, c.to]).flatten().chain([plan.valid.0, plan.valid.1]);
     let mut all: BTreeSet<u64> = dates.flat_map(|d| [d as u64, d as u64 + 1, (d as u64).saturating_sub(1)]).collect();
     all.extend(holidays.iter().take(6).flat_map(|&h| [h, h.wrapping_add(1)]));
@@ -224,7 +224,7 @@ fn telling_days(r: &mut Random, plan: &Plan, days: (usize, usize), holidays: &[u
 }
 
 /// A year and some days before and after it.
-fn around(days: (usize, usize)) -> Vec<u64> {
+pub fn around(days: (usize, usize)) -> Vec<u64> {
     (days.0.saturating_sub(8) as u64..=days.1 as u64 + 8).collect()
 }
 
@@ -323,15 +323,15 @@ fn with_one(d: &mut Desk, i: usize, all: Vec<Plan>, broken: usize) -> (Batch, us
 }
 
 /// Some trips of different days that stand.
-fn varied(d: &mut Desk, count: usize, stops: usize) -> Vec<Plan> {
-    let i = d.m.r.below(1000);
-    let days = year(&mut d.m, i);
-    let mut all = plans(&mut d.m, count, stops, days);
+pub fn varied(m: &mut Maker, count: usize, stops: usize) -> Vec<Plan> {
+    let i = m.r.below(1000);
+    let days = year(m, i);
+    let mut all = plans(m, count, stops, days);
     let sets = combinations();
     for plan in &mut all {
-        let kinds = &sets[d.m.r.below(sets.len())];
-        plan.codes = codes_of(&mut d.m.r, kinds, kinds.len(), days);
-        plan.signs = some_signs(&mut d.m.r, i);
+        let kinds = &sets[m.r.below(sets.len())];
+        plan.codes = codes_of(&mut m.r, kinds, kinds.len(), days);
+        plan.signs = some_signs(&mut m.r, i);
         plan.signs.retain(|&s| !is_day_sign(s) || !kinds.contains(&b'3'));
     }
     all
@@ -342,7 +342,7 @@ pub fn day_rules(link: &mut Link) {
     let mut d = Desk::new(link, 54);
     for round in 0..5 {
         for way in day_breaks() {
-            let mut all = varied(&mut d, 4, 3);
+            let mut all = varied(&mut d.m, 4, 3);
             let at = d.m.r.below(4);
             way.put(&mut d.m.r, &mut all[at]);
             let trip = (all[at].line, all[at].number);
@@ -361,7 +361,7 @@ pub fn stop_rules(link: &mut Link) {
         for (name, _, damage) in STOP_DAMAGE {
             let (mut all, at) = loop {
                 let stops = 3 + d.m.r.below(5);
-                let mut all = varied(&mut d, 3, stops);
+                let mut all = varied(&mut d.m, 3, stops);
                 let at = d.m.r.below(3);
                 // odd and even trips by turns
                 if all[at].number % 2 == round as u64 % 2 && damage(&mut d.m.r, &mut all[at].halts).is_some() {
@@ -385,7 +385,7 @@ pub fn stop_rules(link: &mut Link) {
 pub fn several_broken(link: &mut Link) {
     let mut d = Desk::new(link, 56);
     for i in 0..120 {
-        let mut all = varied(&mut d, 4, 5);
+        let mut all = varied(&mut d.m, 4, 5);
         let breaks = day_breaks();
         let mut wanted: Vec<(u64, u64, u64)> = Vec::new();
         for plan in &mut all {
@@ -485,7 +485,7 @@ pub fn near_misses(link: &mut Link) {
     let mut d = Desk::new(link, 57);
     for round in 0..5 {
         for (name, change) in NEARLY {
-            let mut all = varied(&mut d, 3, 4);
+            let mut all = varied(&mut d.m, 3, 4);
             let at = d.m.r.below(3);
             change(&mut d.m.r, &mut all[at]);
             let b = d.batch_of(all.clone(), round);
@@ -503,7 +503,7 @@ pub fn stops(link: &mut Link) {
     let mut d = Desk::new(link, 58);
     for i in 0..50 {
         let count = 2 + d.m.r.below(6);
-        let mut all = varied(&mut d, 4, count);
+        let mut all = varied(&mut d.m, 4, count);
         let left = 2 + d.m.r.below(count - 1);
         fewer(&mut d.m.r, &mut all[i % 4], left);
         let b = d.batch_of(all.clone(), i);
@@ -524,7 +524,7 @@ pub fn stops(link: &mut Link) {
 }
 
 /// Numbers whose lower bits are those of another.
-fn far_from(n: u64) -> [u64; 6] {
+pub fn far_from(n: u64) -> [u64; 6] {
     [n ^ 1, n + (1 << 32), n + (1 << 63), n + 1_000_000_000, u64::MAX, u64::MAX - n]
 }
 
@@ -532,7 +532,7 @@ fn far_from(n: u64) -> [u64; 6] {
 pub fn no_such(link: &mut Link) {
     let mut d = Desk::new(link, 59);
     for i in 0..8 {
-        let all = varied(&mut d, 5, 3);
+        let all = varied(&mut d.m, 5, 3);
         let b = d.batch_of(all.clone(), i);
         d.check(&b, FINE, &way("it stands"), Asked::Some(1));
         for plan in &all {
@@ -603,7 +603,7 @@ pub fn as_they_fall(link: &mut Link) {
     let mut d = Desk::new(link, 61);
     for i in 0..400 {
         let stops = 2 + d.m.r.below(3);
-        let mut all = varied(&mut d, 2, stops);
+        let mut all = varied(&mut d.m, 2, stops);
         if i % 2 == 0 {
             all.iter_mut().for_each(|plan| codes_as_they_fall(&mut d.m.r, plan));
         } else {

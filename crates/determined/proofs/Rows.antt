@@ -25,6 +25,7 @@ use Rattle.sales.specs.OneResult.{sales-one}
 use Rattle.naming.specs.Names.{numberedNamed, nameAnswer}
 use Rattle.naming.specs.OneResult.{named-one}
 use Rattle.fileresults.specs.Results.{writeResult}
+use Rattle.saleresults.specs.Results.{salesResult}
 use Rattle.determined.specs.Table.{Determined}
 
 pub determined : Determined
@@ -60,5 +61,10 @@ determined = record {
   slovdrim-check-hinted = λ b. settled-self _;
   slovdrim-runs = λ b line trip d holidays. settled-self _;
   slovdrim-trip-stop = λ b line trip n. settled-self _;
+  slovdrim-sale = λ b line trip day month year from to holidays. settled-self _;
+  slovdrim-sale-hinted = λ b line trip day month year from to holidays. settled-self _;
+  slovdrim-sales = λ b holidays asked list. settled-both _ _ (settled-self (salesResult (salesAnswer b asked (length list)))) (settled-self (salesList b holidays asked list));
+  slovdrim-stop = λ b town part place. settled-self _;
+  slovdrim-stop-hinted = λ b town part place. settled-self _;
   slovdrim-version = settled-self _;
 }

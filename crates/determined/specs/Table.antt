@@ -21,6 +21,7 @@ use Rattle.fileresults.specs.Results.{RecordsGives, StretchGives, WriteGives}
 use Rattle.dayresults.specs.Results.{DayGives, DateGives, WeekdayGives, WeekGives, HolidayGives, FitsGives}
 use Rattle.checkresults.specs.Results.{FieldsGives, CheckGives}
 use Rattle.tripresults.specs.Results.{RunsGives, TripStopGives}
+use Rattle.saleresults.specs.Results.{SaleGives, SalesGives, StopGives}
 use Rattle.slovdrim.specs.Version.{VersionGives}
 
 pub record Determined : Type 0 where
@@ -62,4 +63,9 @@ pub record Determined : Type 0 where
   pub slovdrim-check-hinted : (b : Batch) → Settled (CheckGives b)
   pub slovdrim-runs : (b : Batch) (line trip d : ℕ) (holidays : List ℕ) → Settled (RunsGives b line trip d holidays)
   pub slovdrim-trip-stop : (b : Batch) (line trip n : ℕ) → Settled (TripStopGives b line trip n)
+  pub slovdrim-sale : (b : Batch) (line trip day month year from to : ℕ) (holidays : List ℕ) → Settled (SaleGives b line trip day month year from to holidays)
+  pub slovdrim-sale-hinted : (b : Batch) (line trip day month year from to : ℕ) (holidays : List ℕ) → Settled (SaleGives b line trip day month year from to holidays)
+  pub slovdrim-sales : (b : Batch) (holidays asked list : List ℕ) → Settled (SalesGives b holidays asked list)
+  pub slovdrim-stop : (b : Batch) (town part place : Text) → Settled (StopGives b town part place)
+  pub slovdrim-stop-hinted : (b : Batch) (town part place : Text) → Settled (StopGives b town part place)
   pub slovdrim-version : Settled VersionGives

@@ -1,0 +1,226 @@
+/* The thirteen files of a batch, read into memory, and the order of their keys. */
+#define _POSIX_C_SOURCE 200809L
+#include "desk.h"
+
+#include <errno.h>
+#include <stdlib.h>
+#include <string.h>
+#include <sys/stat.h>
+
+enum { FIRST_ROOM = 65536 };
+
+const struct kind kinds[FILES + 1] = {
+    {"", 0, 0},          {"VerzeJDF", 1, 0},  {"Zastavky", 12, 1}, {"Pevnykod", 3, 1}, {"Dopravci", 11, 1}, {"Linky", 10, 1},   {"Spoje", 12, 2},
+    {"Zaslinky", 7, 2},  {"Zasspoje", 10, 3}, {"Udaje", 3, 2},     {"Caskody", 8, 3},  {"Altdop", 13, 0},   {"Altlinky", 3, 0}, {"Mistenky", 3, 0},
+};
+
+const char *why_not(int error)
+{
+    switch (error) {
+    case ENOENT:
+        return either("it isn't there", "není tam");
+    case EACCES:
+        return either("no permission", "chybí oprávnění");
+    case EISDIR:
+        return either("it is a directory", "je to adresář");
+    case ENOTDIR:
+        return either("it is no directory", "není to adresář");
+    default:
+        return strerror(error);
+    }
+}
+
+/* Twice the room, up to MOST_BYTES. */
+static int grow(struct file *file, size_t *room)
+{
+    size_t wanted = *room == 0 ? FIRST_ROOM : *room * 2;
+    uint8_t *bytes = realloc(file->bytes, wanted);
+    if (bytes == NULL)
+        return 0;
+    file->bytes = bytes;
+    *room = wanted;
+    return 1;
+}
+
+static enum reading read_from(FILE *from, struct file *file)
+{
+    size_t room = 0, taken;
+    do {
+        if (file->length == room && !grow(file, &room))
+            return NO_MEMORY;
+        taken = fread(file->bytes + file->length, 1, room - file->length, from);
+        file->length += taken;
+    } while (taken > 0 && file->length < MOST_BYTES);
+    return ferror(from) ? NOT_READ : READ_WHOLE;
+}
+
+/* The bytes of a file. Of one that is longer than the library reads it takes one byte more than that, which gives the same verdict. The file is copied and
+   not mapped, so that it may be cut meanwhile. errno says why it was not read. */
+enum reading read_bytes(const char *path, struct file *file)
+{
+    enum reading outcome;
+    int error;
+    FILE *from = fopen(path, "rb");
+    file->bytes = NULL;
+    file->length = 0;
+    if (from == NULL)
+        return errno == ENOENT ? MISSING : NOT_READ;
+    errno = 0;
+    outcome = read_from(from, file);
+    error = errno;
+    fclose(from);
+    if (outcome != READ_WHOLE) {
+        free(file->bytes);
+        file->bytes = NULL;
+        file->length = 0;
+    }
+    errno = error;
+    return outcome;
+}
+
+/* A missing file counts as empty, and that is said. */
+static enum status read_file(const char *folder, unsigned number, struct file *file)
+{
+    size_t room = strlen(folder) + strlen(kinds[number].name) + sizeof "/.txt";
+    char *path = malloc(room);
+    enum status status = ANSWERED;
+    if (path == NULL)
+        return no_memory();
+    snprintf(path, room, "%s/%s.txt", folder, kinds[number].name);
+    switch (read_bytes(path, file)) {
+    case READ_WHOLE:
+        break;
+    case MISSING:
+        COMPLAIN("%s is missing and counts as empty", "%s chybí a platí za prázdný", path);
+        break;
+    case NOT_READ:
+        COMPLAIN("%s can't be read: %s", "%s nelze přečíst: %s", path, why_not(errno));
+        status = WRONG_USE;
+        break;
+    case NO_MEMORY:
+        status = no_memory();
+        break;
+    }
+    free(path);
+    return status;
+}
+
+static enum status look_for_folder(const char *folder)
+{
+    struct stat found;
+    if (stat(folder, &found) == 0) {
+        if (S_ISDIR(found.st_mode))
+            return ANSWERED;
+        errno = ENOTDIR;
+    }
+    COMPLAIN("\"%s\" can't be read: %s", "\"%s\" nelze přečíst: %s", folder, why_not(errno));
+    return WRONG_USE;
+}
+
+struct place {
+    uint64_t key[3];
+    uint32_t start;
+};
+
+static void key_of(struct text record, unsigned keys, uint64_t key[3])
+{
+    unsigned i;
+    for (i = 0; i < 3; i++)
+        key[i] = i < keys ? number_at(record, i + 1) : 0;
+}
+
+static int compare_keys(const uint64_t a[3], const uint64_t b[3])
+{
+    int i;
+    for (i = 0; i < 3; i++)
+        if (a[i] != b[i])
+            return a[i] < b[i] ? -1 : 1;
+    return 0;
+}
+
+static int by_key(const void *a, const void *b)
+{
+    const struct place *x = a, *y = b;
+    int keys = compare_keys(x->key, y->key);
+    return keys != 0 ? keys : (x->start > y->start) - (x->start < y->start);
+}
+
+/* Whether the keys strictly rise from record to record, and how many records there are. */
+static int keys_rise(const struct file *file, unsigned keys, size_t *records)
+{
+    uint64_t last[3] = {0, 0, 0}, key[3];
+    struct text record;
+    int rise = 1;
+    *records = 0;
+    for (record = first_record(file); record.length > 0; record = next_record(file, record)) {
+        key_of(record, keys, key);
+        rise = rise && (*records == 0 || compare_keys(last, key) < 0);
+        memcpy(last, key, sizeof last);
+        ++*records;
+    }
+    return rise;
+}
+
+/* Appends the starts of one file's records, by rising key. */
+static int append_order(struct batch *batch, const struct file *file, unsigned keys, size_t records)
+{
+    struct place *places = malloc(records * sizeof *places);
+    uint32_t *order = realloc(batch->order, (batch->order_count + records) * sizeof *order);
+    struct text record;
+    size_t i = 0;
+    if (order != NULL)
+        batch->order = order;
+    if (places == NULL || order == NULL) {
+        free(places);
+        return 0;
+    }
+    for (record = first_record(file); record.length > 0; record = next_record(file, record)) {
+        key_of(record, keys, places[i].key);
+        places[i++].start = (uint32_t)(record.bytes - file->bytes);
+    }
+    qsort(places, records, sizeof *places, by_key);
+    for (i = 0; i < records; i++)
+        batch->order[batch->order_count++] = places[i].start;
+    free(places);
+    return 1;
+}
+
+/* The list that slovdrim.h describes at slovdrim_check_hinted. It changes no answer, so a file that can't be legal, having more lines than its bytes have
+   room for records, is left out; and so is the rest if there is no memory for it. */
+static void find_order(struct batch *batch)
+{
+    unsigned n;
+    for (n = SLOVDRIM_ZASTAVKY; n <= SLOVDRIM_CASKODY; n++) {
+        const struct file *file = &batch->files[n];
+        size_t records, shortest = 3 * (size_t)kinds[n].fields + 2;
+        if (keys_rise(file, kinds[n].keys, &records) || records > file->length / shortest)
+            continue;
+        if (!append_order(batch, file, kinds[n].keys, records))
+            return;
+    }
+}
+
+enum status read_batch(const char *folder, struct batch *batch)
+{
+    enum status status;
+    unsigned n;
+    memset(batch, 0, sizeof *batch);
+    status = look_for_folder(folder);
+    for (n = 1; n <= FILES && status == ANSWERED; n++)
+        status = read_file(folder, n, &batch->files[n]);
+    if (status != ANSWERED) {
+        free_batch(batch);
+        return status;
+    }
+    find_order(batch);
+    return ANSWERED;
+}
+
+void free_batch(struct batch *batch)
+{
+    unsigned n;
+    for (n = 1; n <= FILES; n++)
+        free(batch->files[n].bytes);
+    free(batch->order);
+    memset(batch, 0, sizeof *batch);
+}

@@ -1,0 +1,45 @@
+/* A large batch takes the library seconds. From the first on, a terminal shows that something is done: a dot for each second, on standard error. */
+#define _POSIX_C_SOURCE 200809L
+#include "desk.h"
+
+#include <errno.h>
+#include <signal.h>
+#include <string.h>
+#include <unistd.h>
+
+static volatile sig_atomic_t seconds;
+static const char *first_words;
+
+/* A second is over. The library keeps no state, so it may be interrupted anywhere. */
+static void each_second(int signal_number)
+{
+    int error = errno;
+    const char *words = seconds == 0 ? first_words : ".";
+    (void)signal_number;
+    if (write(STDERR_FILENO, words, strlen(words)) >= 0)
+        seconds = 1;
+    alarm(1);
+    errno = error;
+}
+
+void begin_waiting(void)
+{
+    struct sigaction action;
+    if (!isatty(STDERR_FILENO))
+        return;
+    seconds = 0;
+    first_words = either("desk: checking the batch .", "desk: kontroluje se dávka .");
+    memset(&action, 0, sizeof action);
+    action.sa_handler = each_second;
+    action.sa_flags = SA_RESTART;
+    sigaction(SIGALRM, &action, NULL);
+    alarm(1);
+}
+
+void end_waiting(void)
+{
+    alarm(0);
+    if (seconds != 0)
+        fputc('\n', stderr);
+    seconds = 0;
+}

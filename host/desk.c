@@ -2,7 +2,7 @@
    Exit status: 0 answered, 1 refused, 2 wrong use or a file that can't be read.
 
    The library judges: what it refuses is refused, with its number. The host reads files and arguments, shows names and times of a batch that the library
-   accepted, and refuses by itself only a stop number that the batch doesn't have (desk trips). */
+   accepted, and refuses by itself only a stop number that the batch doesn't have, and more pairs of tariff numbers than it asks about (desk trips). */
 #include "desk.h"
 
 #include <string.h>

@@ -108,8 +108,14 @@ const DAYS_MET: &[(&str, u64, &str)] = &[
     ("slovdrim_fits", 12, ""),
 ];
 
-/// The sweeps: file 1 to 11 bytes, file 3 to 14, which is a whole record and three bytes more.
-const SWEEPS: [(u64, usize, usize, usize); 2] = [(1, 11, 11, 2), (3, 14, 12, 6)];
+/// The sweeps: file 1 to 11 bytes, file 3 to 16, or to as many as SLOVDRIM_SWEEP says; a record of file 3 has 11 at least.
+fn sweeps() -> [(u64, usize, usize, usize); 2] {
+    let longest = match std::env::var("SLOVDRIM_SWEEP") {
+        Ok(text) => text.parse().expect("SLOVDRIM_SWEEP is a number of bytes"),
+        Err(_) => 16,
+    };
+    [(1, 11, 11, 2), (3, longest, 12, 6)]
+}
 
 fn step(report: &mut Report, command: &[String], name: &str, ask: impl FnOnce(&mut Link)) {
     let began = Instant::now();
@@ -138,7 +144,7 @@ fn compare_files(command: &[String]) -> Report {
         println!("the sweeps are left out, since there are differences already");
         return report;
     }
-    for (file, longest, stretches_to, parts) in SWEEPS {
+    for (file, longest, stretches_to, parts) in sweeps() {
         let name = format!("every beginning and one byte more, file {} to {} bytes", file, longest);
         step(&mut report, command, &name, |l| sweep::sweep(l, file, longest, stretches_to, parts));
     }

@@ -189,6 +189,7 @@ fn compare_trips(command: &[String]) -> Report {
     step(&mut report, command, "every stop rule", trip_questions::stop_rules);
     step(&mut report, command, "several trips broken", trip_questions::several_broken);
     step(&mut report, command, "nearly broken", trip_questions::near_misses);
+    step(&mut report, command, "one mark on several trips", trip_questions::one_mark);
     step(&mut report, command, "stops", trip_questions::stops);
     step(&mut report, command, "no such trip, day or stop", trip_questions::no_such);
     step(&mut report, command, "refused batches", trip_questions::refused);

@@ -353,5 +353,5 @@ pub fn rewriting(link: &mut Link) {
 
 pub fn version(link: &mut Link) {
     link.letter(b'V');
-    link.expect(Call::Version, &[3]);
+    link.expect(Call::Version, &[4]);
 }

@@ -1,9 +1,9 @@
 //! An independent implementation of document 01, "The batch", "Bytes of a file", "Fields", "Days", "A trip's stops" and the sale, and its comparison with the library.
 //!
-//!     model compare files|days|fields|links|trips|whole|sales DRIVER ARGUMENTS..   ask the driver everything and compare
-//!     model program FOLDER PROGRAM ARGUMENTS..                                     run the check program on batches in this folder, which it makes, and compare
-//!     model almanac                                                                every day of the model's own calendar, a line each
-//!     model samples FOLDER                                                         whether the model accepts each file of a batch, read by itself
+//!     model compare files|days|fields|links|order|trips|whole|sales DRIVER ARGUMENTS..   ask the driver everything and compare
+//!     model program FOLDER PROGRAM ARGUMENTS..                                           run the check program on batches in this folder, which it makes, and compare
+//!     model almanac                                                                      every day of the model's own calendar, a line each
+//!     model samples FOLDER                                                               whether the model accepts each file of a batch, read by itself
 //!
 //! SLOVDRIM_SEED is a number that all batches and files by seed begin from; 0 if it isn't set.
 //!
@@ -29,6 +29,8 @@ mod hints;
 mod link;
 mod links;
 mod maker;
+mod order;
+mod order_questions;
 mod plans;
 mod program;
 mod rules;
@@ -217,6 +219,19 @@ fn compare_links(command: &[String]) -> Report {
     report
 }
 
+fn compare_order(command: &[String]) -> Report {
+    let mut report = Report::default();
+    step(&mut report, command, "small facts", order_questions::small_facts);
+    step(&mut report, command, "samples", order_questions::samples);
+    step(&mut report, command, "few records", order_questions::few_records);
+    step(&mut report, command, "which files", order_questions::which_files);
+    step(&mut report, command, "equal keys", order_questions::equal_keys);
+    step(&mut report, command, "keys as written", order_questions::as_written);
+    step(&mut report, command, "batches with a fault", order_questions::refused);
+    step(&mut report, command, "large files", order_questions::large);
+    report
+}
+
 fn compare_whole(command: &[String]) -> Report {
     let mut report = Report::default();
     step(&mut report, command, "valid", whole::valid);
@@ -303,6 +318,11 @@ fn main() {
             batch_met::told(&mut report);
             report
         }
+        ["compare", "order", _, ..] => {
+            let mut report = compare_order(&arguments[2..]);
+            order_questions::told(&mut report);
+            report
+        }
         ["compare", "trips", _, ..] => {
             let mut report = compare_trips(&arguments[2..]);
             trip_met::told(&mut report);
@@ -331,7 +351,7 @@ fn main() {
             return;
         }
         _ => {
-            eprintln!("model compare files|days|fields|links|trips|whole|sales DRIVER ARGUMENTS.. | model program FOLDER PROGRAM ARGUMENTS.. | model almanac | model samples FOLDER");
+            eprintln!("model compare files|days|fields|links|order|trips|whole|sales DRIVER ARGUMENTS.. | model program FOLDER PROGRAM ARGUMENTS.. | model almanac | model samples FOLDER");
             std::process::exit(2);
         }
     };

@@ -167,7 +167,7 @@ void about_to(const char *call, uint64_t a, uint64_t b, uint64_t c, int where, c
 
 static int on_a_batch(const char *call)
 {
-    static const char *const calls[] = {"slovdrim_check", "slovdrim_runs", "slovdrim_trip_stop", "slovdrim_sale", "slovdrim_stop"};
+    static const char *const calls[] = {"slovdrim_check", "slovdrim_order", "slovdrim_runs", "slovdrim_trip_stop", "slovdrim_sale", "slovdrim_stop"};
     size_t i;
     for (i = 0; i < sizeof calls / sizeof *calls; i++)
         if (strncmp(call, calls[i], strlen(calls[i])) == 0)
@@ -494,7 +494,7 @@ int main(void)
             give_words(&version, 1);
             break;
         default:
-            if (!days_request(letter) && !fields_request(letter) && !batch_request(letter) && !trips_request(letter) && !sales_request(letter))
+            if (!days_request(letter) && !fields_request(letter) && !batch_request(letter) && !order_request(letter) && !trips_request(letter) && !sales_request(letter))
                 give_up("a request that it doesn't know");
         }
     }

@@ -1,5 +1,5 @@
-/* What driver.c, driver_days.c, driver_fields.c, driver_batch.c, driver_trips.c and driver_sales.c share: the pipes, the rooms that lent memory stands in, and what
-   is said when a call touches what it was not lent. */
+/* What driver.c, driver_days.c, driver_fields.c, driver_batch.c, driver_order.c, driver_trips.c and driver_sales.c share: the pipes, the rooms that lent memory stands
+   in, and what is said when a call touches what it was not lent. */
 #ifndef SLOVDRIM_DRIVER_H
 #define SLOVDRIM_DRIVER_H
 
@@ -61,6 +61,9 @@ int fields_request(uint8_t letter);
 
 /* One request on a batch as a whole; 0 if the letter is none of its own. */
 int batch_request(uint8_t letter);
+
+/* One request on the order of a batch; 0 if the letter is none of its own. */
+int order_request(uint8_t letter);
 
 /* One request on a trip of a batch; 0 if the letter is none of its own. */
 int trips_request(uint8_t letter);

@@ -1,4 +1,4 @@
-# What .ci/run, tests/run, samples/run, bench/run, check and show have in common; they read it with `.` from the root of the repository.
+# What .ci/run, tests/run, tests/desk, tests/install, samples/run, bench/run, check and show have in common; they read it with `.` from the root of the repository.
 #
 #   need COMMAND PACKAGE..   installs Debian packages, if the command is missing
 #   need_c, need_tests       what C programs over the archive need, and what the tests need besides

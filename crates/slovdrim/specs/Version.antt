@@ -3,4 +3,4 @@ use Prim.Native.Nat.{ℕ}
 use mathlib.Core.Path.{_≡_}
 
 abbrev pub VersionGives : ℕ → Type 0
-VersionGives r = r ≡ 3
+VersionGives r = r ≡ 4

@@ -69,7 +69,7 @@ put-all-spec =
     (tie.spec
     Inv-loop
     μ-loop
-    (λ c. (omega arith, omega arith, refl, c .before .before .before .before .before .before .before .before .before .before .before .before .before .before .pre .1, refl))  -- loop-holds
+    (λ c. (omega arith, omega arith, refl, omega (arith, c .before .before .before .before .before .before .before .before .before .before .before .before .before .before .pre .1), refl))  -- loop-holds
     (λ c κs. search needs)  -- file-of-requires
     put-part-requires
     (λ c. omega arith)  -- add-file

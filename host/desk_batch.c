@@ -18,13 +18,19 @@ const char *why_not(int error)
 {
     switch (error) {
     case ENOENT:
-        return either("it isn't there", "není tam");
+        return either("it isn't there", "neexistuje");
     case EACCES:
         return either("no permission", "chybí oprávnění");
     case EISDIR:
         return either("it is a directory", "je to adresář");
     case ENOTDIR:
         return either("it is no directory", "není to adresář");
+    case ELOOP:
+        return either("it is a link that leads back to itself", "je to odkaz, který vede zpět k sobě");
+    case ENAMETOOLONG:
+        return either("the name is too long", "název je příliš dlouhý");
+    case EIO:
+        return either("reading failed", "čtení selhalo");
     default:
         return strerror(error);
     }
@@ -50,12 +56,18 @@ static enum reading read_from(FILE *from, struct file *file)
             return NO_MEMORY;
         taken = fread(file->bytes + file->length, 1, room - file->length, from);
         file->length += taken;
-    } while (taken > 0 && file->length < MOST_BYTES);
+    } while (taken > 0 && !ferror(from) && file->length < MOST_BYTES);
     return ferror(from) ? NOT_READ : READ_WHOLE;
 }
 
+static int is_there(const char *path)
+{
+    struct stat found;
+    return lstat(path, &found) == 0;
+}
+
 /* The bytes of a file. Of one that is longer than the library reads it takes one byte more than that, which gives the same verdict. The file is copied and
-   not mapped, so that it may be cut meanwhile. errno says why it was not read. */
+   not mapped, so that it may be cut meanwhile. A link to nothing is there and isn't read. errno says why it was not read. */
 enum reading read_bytes(const char *path, struct file *file)
 {
     enum reading outcome;
@@ -64,7 +76,7 @@ enum reading read_bytes(const char *path, struct file *file)
     file->bytes = NULL;
     file->length = 0;
     if (from == NULL)
-        return errno == ENOENT ? MISSING : NOT_READ;
+        return errno == ENOENT && !is_there(path) ? MISSING : NOT_READ;
     errno = 0;
     outcome = read_from(from, file);
     error = errno;
@@ -76,6 +88,14 @@ enum reading read_bytes(const char *path, struct file *file)
     }
     errno = error;
     return outcome;
+}
+
+static enum status refuse_file(const char *path, int error)
+{
+    end_waiting();
+    COMPLAIN("%s can't be read: %s", "%s nelze přečíst: %s", plain(path),
+             error == ENOENT ? either("it is a link to nothing", "je to odkaz, který nikam nevede") : why_not(error));
+    return WRONG_USE;
 }
 
 /* A missing file counts as empty, and that is said. */
@@ -91,11 +111,12 @@ static enum status read_file(const char *folder, unsigned number, struct file *f
     case READ_WHOLE:
         break;
     case MISSING:
-        COMPLAIN("%s is missing and counts as empty", "%s chybí a platí za prázdný", path);
+        end_waiting();
+        COMPLAIN("%s is missing and counts as empty", "soubor %s chybí a považuje se za prázdný", plain(path));
+        begin_waiting();
         break;
     case NOT_READ:
-        COMPLAIN("%s can't be read: %s", "%s nelze přečíst: %s", path, why_not(errno));
-        status = WRONG_USE;
+        status = refuse_file(path, errno);
         break;
     case NO_MEMORY:
         status = no_memory();
@@ -108,12 +129,14 @@ static enum status read_file(const char *folder, unsigned number, struct file *f
 static enum status look_for_folder(const char *folder)
 {
     struct stat found;
+    int error;
     if (stat(folder, &found) == 0) {
         if (S_ISDIR(found.st_mode))
             return ANSWERED;
         errno = ENOTDIR;
     }
-    COMPLAIN("\"%s\" can't be read: %s", "\"%s\" nelze přečíst: %s", folder, why_not(errno));
+    error = errno;
+    COMPLAIN("\"%s\" can't be read: %s", "\"%s\" nelze přečíst: %s", plain(folder), why_not(error));
     return WRONG_USE;
 }
 
@@ -200,15 +223,18 @@ static void find_order(struct batch *batch)
     }
 }
 
+/* The waiting begins here, and goes on for whoever has the batch judged. */
 enum status read_batch(const char *folder, struct batch *batch)
 {
     enum status status;
     unsigned n;
     memset(batch, 0, sizeof *batch);
     status = look_for_folder(folder);
+    begin_waiting();
     for (n = 1; n <= FILES && status == ANSWERED; n++)
         status = read_file(folder, n, &batch->files[n]);
     if (status != ANSWERED) {
+        end_waiting();
         free_batch(batch);
         return status;
     }

@@ -140,11 +140,6 @@ static enum status look_for_folder(const char *folder)
     return WRONG_USE;
 }
 
-struct place {
-    uint64_t key[3];
-    uint32_t start;
-};
-
 static void key_of(struct text record, unsigned keys, uint64_t key[3])
 {
     unsigned i;
@@ -159,13 +154,6 @@ static int compare_keys(const uint64_t a[3], const uint64_t b[3])
         if (a[i] != b[i])
             return a[i] < b[i] ? -1 : 1;
     return 0;
-}
-
-static int by_key(const void *a, const void *b)
-{
-    const struct place *x = a, *y = b;
-    int keys = compare_keys(x->key, y->key);
-    return keys != 0 ? keys : (x->start > y->start) - (x->start < y->start);
 }
 
 /* Whether the keys strictly rise from record to record, and how many records there are. */
@@ -184,43 +172,33 @@ static int keys_rise(const struct file *file, unsigned keys, size_t *records)
     return rise;
 }
 
-/* Appends the starts of one file's records, by rising key. */
-static int append_order(struct batch *batch, const struct file *file, unsigned keys, size_t records)
+/* How many places the list has that slovdrim.h describes at slovdrim_order: the records of the files whose keys don't rise. */
+static size_t places_of(const struct batch *batch)
 {
-    struct place *places = malloc(records * sizeof *places);
-    uint32_t *order = realloc(batch->order, (batch->order_count + records) * sizeof *order);
-    struct text record;
-    size_t i = 0;
-    if (order != NULL)
-        batch->order = order;
-    if (places == NULL || order == NULL) {
-        free(places);
-        return 0;
-    }
-    for (record = first_record(file); record.length > 0; record = next_record(file, record)) {
-        key_of(record, keys, places[i].key);
-        places[i++].start = (uint32_t)(record.bytes - file->bytes);
-    }
-    qsort(places, records, sizeof *places, by_key);
-    for (i = 0; i < records; i++)
-        batch->order[batch->order_count++] = places[i].start;
-    free(places);
-    return 1;
+    size_t places = 0, records;
+    unsigned n;
+    for (n = SLOVDRIM_ZASTAVKY; n <= SLOVDRIM_CASKODY; n++)
+        if (!keys_rise(&batch->files[n], kinds[n].keys, &records))
+            places += records;
+    return places;
 }
 
-/* The list that slovdrim.h describes at slovdrim_check_hinted. It changes no answer, so a file that can't be legal, having more lines than its bytes have
-   room for records, is left out; and so is the rest if there is no memory for it. */
+/* The hint, for a batch that has a file whose keys don't rise. It changes no answer: where there is none, since a file is refused by itself or since there
+   is no memory, the batch is judged without it. */
 static void find_order(struct batch *batch)
 {
-    unsigned n;
-    for (n = SLOVDRIM_ZASTAVKY; n <= SLOVDRIM_CASKODY; n++) {
-        const struct file *file = &batch->files[n];
-        size_t records, shortest = 3 * (size_t)kinds[n].fields + 2;
-        if (keys_rise(file, kinds[n].keys, &records) || records > file->length / shortest)
-            continue;
-        if (!append_order(batch, file, kinds[n].keys, records))
-            return;
+    size_t places = places_of(batch);
+    uint32_t *list = places == 0 || places > SIZE_MAX / sizeof *list ? NULL : malloc(places * sizeof *list);
+    slovdrim_order_answer answer;
+    if (list == NULL)
+        return;
+    answer = slovdrim_order(EACH_FILE(batch), list, places);
+    if (answer.number != SLOVDRIM_ANSWER) {
+        free(list);
+        return;
     }
+    batch->order = list;
+    batch->order_count = answer.written;
 }
 
 /* The waiting begins here, and goes on for whoever has the batch judged. */

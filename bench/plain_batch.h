@@ -71,6 +71,12 @@ static inline struct plain_text text_of(const struct table *table, const struct 
     return (struct plain_text){table->bytes + fields[f].start, fields[f + 1].start - between - fields[f].start};
 }
 
+/* Of a time field's value. */
+static inline int is_time(uint32_t value)
+{
+    return value < 1440;
+}
+
 static inline struct plain_answer refused(unsigned number, unsigned file, size_t record, unsigned field)
 {
     return (struct plain_answer){.number = number, .file = file, .record = record, .field = field};

@@ -116,11 +116,6 @@ static int is_period(uint32_t from, uint32_t to)
     return to == NONE || (from != NONE && from <= to);
 }
 
-static int is_time(uint32_t value)
-{
-    return value < 1440;
-}
-
 static int is_time_code(const struct table *table, const struct field *fields)
 {
     struct plain_text mark = text_of(table, fields, 4);

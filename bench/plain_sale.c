@@ -138,11 +138,6 @@ static uint32_t place_of(const struct plain_batch *batch, size_t t, uint64_t tar
     return i;
 }
 
-static int is_time(uint32_t value)
-{
-    return value < 1440;
-}
-
 /* 16 to 19, or the sale. */
 static struct plain_sold between(const struct plain_batch *batch, uint32_t here, uint32_t there)
 {

@@ -81,7 +81,7 @@ fn stop(key: &str) -> Record {
     texts(&[key, "A", "", "", "", "SK", "", "", "", "", "", ""])
 }
 
-/// A time code, 25 bytes with its three numbers left out.
+/// A time code, 29 bytes with its three numbers left out.
 fn time_code(key: &[&str]) -> Record {
     texts(&[key, &["10", "5", "", "", ""]].concat())
 }

@@ -7,23 +7,22 @@ use borrow.Rule.Slice.PartMut.{midOf, putMid}
 use borrow.Author.Tests.{eq-eqb, not-true, not-false, le-leb, lt-leb, eqb-true, ltb-true, ltb-false}
 use native.Mathlib.Omega.{arith}
 use lib.Dec.{eqb, ltb, leb}
-use lib.ListN.{length, getD, take, drop, set, length-set, length-append, length-drop, drop-of-length-le}
+use lib.ListN.{length, getD, drop, set, length-append, length-drop, drop-of-length-le}
 use lib.Seq.{drop-drop, length-take-le}
-use Rattle.laws.specs.Numbered.{Numbered, answered, refused}
+use Rattle.laws.specs.Numbered.{Numbered, refused}
 use Rattle.laws.specs.Splice.{splice, store, splice-none, splice-then}
-use Rattle.laws.specs.Tests.{either, clash}
+use Rattle.laws.specs.Tests.{either}
 use Rattle.file.specs.Answers.{numbered}
 use Rattle.file.specs.Files.{fieldsOf}
 use Rattle.file.specs.Format.{Fields, writtenRecord}
 use Rattle.file.specs.Records.{recordsIn}
 use Rattle.file.specs.declared.Refusal.{Refusal}
-use Rattle.walk.specs.Walk.{LegalFrom}
 use Rattle.walk.proofs.WalkLaws.{none-left, count-left, left-most}
 use Rattle.lines.specs.Index.{startsFrom, starts}
 use Rattle.lines.specs.Lines.{Place, Next}
 use Rattle.lines.specs.Order.{isRising}
 use Rattle.lines.proofs.LineLaws.{place-start, place-on, size-one}
-use Rattle.keys.specs.KeyFiles.{KeyFile, recordsFrom}
+use Rattle.keys.specs.KeyFiles.{KeyFile}
 use Rattle.keys.specs.Ranks.{rankOf}
 use Rattle.thirteen.specs.Batch.{Batch, fileIn}
 use Rattle.fault.specs.Answers.{numberedFault}

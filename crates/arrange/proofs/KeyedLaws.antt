@@ -1,6 +1,5 @@
 -- A batch in whose files nothing is wrong by themselves: its keyed files are no longer than a file may be, are legal, and have numbers in their keys.
 use mathlib.Core.Path.{_≡_}
-use mathlib.Core.Bool.{true}
 use mathlib.Core.List.{List, [], _∷_}
 use Prim.Native.Nat.{ℕ, _+_, _-_, _≤_, _<_}
 use native.Mathlib.Omega.{arith}
@@ -15,11 +14,11 @@ use Rattle.field.specs.Rules.{meets}
 use Rattle.field.specs.Stage.{firstUnkind, recordFault, faultsFrom, fieldFault}
 use Rattle.keys.specs.Ranks.{IsKeyed, AllKeyed}
 use Rattle.keys.specs.KeyFiles.{KeyFile}
-use Rattle.thirteen.specs.Batch.{Batch, fileIn, recordsOf, overFiles}
+use Rattle.thirteen.specs.Batch.{Batch, fileIn, recordsOf}
 use Rattle.thirteen.proofs.OverLaws.{over-each}
 use Rattle.lines.proofs.LineLaws.{all-permitted}
 use Rattle.link.proofs.KindOfLinks.{keyed-kinds}
-use Rattle.alone.specs.Order.{lengthFault, bytesFault, firstFault, fileStages}
+use Rattle.alone.specs.Order.{lengthFault, firstFault, fileStages}
 use Rattle.alone.proofs.FileLaws.{some-fields, legal-files}
 use Rattle.alone.proofs.OrderLaws.{first-each}
 use Rattle.arrange.specs.Keyed.{KeyedFiles}

@@ -1,5 +1,5 @@
 -- `arrange::arrange` meets its contract: what is wrong with a file by itself comes first, then that of a list with no room; else the hint is laid.
-use mathlib.Core.Path.{_≡_, sym, _∙_}
+use mathlib.Core.Path.{_≡_}
 use Prim.Native.Nat.{_≤_}
 use native.Mathlib.Omega.{arith}
 use borrow.Author.Needs.{needs}

@@ -1,5 +1,5 @@
 -- `arrange::put_file` meets its contract: a record starts at each place of the list, so it is put in order.
-use mathlib.Core.Path.{_≡_, sym, ap, subst, _∙_}
+use mathlib.Core.Path.{sym, ap, subst, _∙_}
 use mathlib.Core.List.{List}
 use Prim.Native.Nat.{ℕ}
 use borrow.Author.Needs.{needs}

@@ -1,5 +1,5 @@
 -- `arrange::put_part` meets its contract. A part with places in it is that of a file whose keys don't rise, so it is as long as the file has records.
-use mathlib.Core.Path.{_≡_, sym, _∙_}
+use mathlib.Core.Path.{_≡_, _∙_}
 use mathlib.Core.Bool.{false}
 use Prim.Native.Nat.{_+_, _-_, _≤_}
 use borrow.Author.Needs.{needs}

@@ -1,5 +1,5 @@
 -- `arrange::size_of` meets its contract.
-use mathlib.Core.Path.{_≡_, sym, _∙_}
+use mathlib.Core.Path.{sym, _∙_}
 use borrow.Author.Needs.{needs}
 use denote.Ref.{now}
 use Rattle.arrange.proofs.HintLaws.{part-none, part-many}

@@ -1,5 +1,5 @@
 -- `arrange::whole_size` meets its contract. The loop's invariant: `size` and the places of the files from `file` on are all.
-use mathlib.Core.Path.{_≡_, ap, _∙_}
+use mathlib.Core.Path.{_≡_, ap}
 use Prim.Native.Nat.{_+_, _-_, _*_, _≤_, _<_}
 use native.Mathlib.Omega.{arith}
 use borrow.Author.Needs.{needs}

@@ -188,13 +188,15 @@ static void show_search(const struct batch *batch, const struct search *s, const
     putchar('\n');
 }
 
-static enum status show_offers(const struct batch *batch, const struct questions *q)
+/* Nothing is shown before there is memory for all of it. */
+static enum status show_offers(const struct batch *batch, const struct search *s, const struct holidays *holidays, const struct questions *q)
 {
     size_t i, count;
     struct offer *offers = malloc((q->count + 1) * sizeof *offers);
     if (offers == NULL)
         return no_memory();
     count = offers_of(q, offers);
+    show_search(batch, s, holidays);
     if (count == 0)
         tell(stdout, "No trip may be sold between these stops on this day.\n", "Mezi těmito zastávkami tento den nelze prodat žádný spoj.\n");
     else
@@ -235,8 +237,7 @@ static enum status answer_trips(const struct batch *batch, const struct search *
         return WRONG_USE;
     }
     warn_of_year(holidays, &s->date);
-    show_search(batch, s, holidays);
-    return show_offers(batch, q);
+    return show_offers(batch, s, holidays, q);
 }
 
 static enum status search_batch(const struct batch *batch, const struct search *s, const struct holidays *holidays)

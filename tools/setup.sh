@@ -2,6 +2,7 @@
 #
 #   need COMMAND PACKAGE..   installs Debian packages, if the command is missing
 #   need_header FILE PACKAGE..  the same, if gcc doesn't find the header
+#   bring PACKAGE..          installs them
 #   need_c, need_tests       what C programs over the archive need, and what the tests need besides
 #   kit                      the folder of the Rattle kit that `rt` belongs to
 #   CC, CXX, NM, LINK, RUN   the compilers and nm for x86-64, what they are told when they link, and what runs their programs (arrays)
@@ -16,7 +17,7 @@ command -v rt > /dev/null || { echo "rt, the command of the Rattle kit, is not o
 kit=$(cd "$(dirname "$(readlink -f "$(command -v rt)")")/.." && pwd)
 machine=$(uname -m)
 
-install_packages() {
+bring() {
     local as_root=()
     [ "$(id -u)" = 0 ] || as_root=(sudo)
     # The lists of packages may be missing or old on a fresh machine.
@@ -29,7 +30,7 @@ need() {
     shift
     if command -v "$command" > /dev/null; then return 0; fi
     echo "installing $* for $command"
-    install_packages "$@"
+    bring "$@"
     command -v "$command" > /dev/null || { echo "$command is missing, and $* did not bring it" >&2; exit 1; }
 }
 
@@ -42,7 +43,7 @@ need_header() {
     shift
     if has_header "$header"; then return 0; fi
     echo "installing $* for $header"
-    install_packages "$@"
+    bring "$@"
     has_header "$header" || { echo "$header is missing, and $* did not bring it" >&2; exit 1; }
 }
 

@@ -1,6 +1,9 @@
 /* Texts of a batch are in CP1250, what people type and read is in UTF-8. */
 #include "desk.h"
 
+#include <stdlib.h>
+#include <string.h>
+
 #include "cp1250.h"
 
 void show(FILE *to, struct text text)
@@ -29,6 +32,33 @@ static size_t code_point_at(const uint8_t *at, uint32_t *code)
     return length;
 }
 
+static int steers_terminals(uint32_t code)
+{
+    return code < 32 || (code >= 127 && code < 160);
+}
+
+/* A text from the command line, as it may be shown: control characters, and bytes that are no UTF-8, by their numbers, since the name of a folder may be anybody's.
+   A text that has none is shown as it is; of another a copy is made, which lasts as long as the program. */
+const char *plain(const char *typed)
+{
+    const uint8_t *at = (const uint8_t *)typed;
+    char *copy = malloc(4 * strlen(typed) + 1), *end = copy;
+    if (copy == NULL)
+        return "...";
+    while (*at != 0) {
+        uint32_t code;
+        size_t taken = code_point_at(at, &code), i;
+        int by_numbers = taken == 0 || steers_terminals(code);
+        if (taken == 0)
+            taken = 1;
+        for (i = 0; i < taken; i++)
+            end += sprintf(end, by_numbers ? "\\x%02x" : "%c", at[i]);
+        at += taken;
+    }
+    *end = 0;
+    return copy;
+}
+
 /* A typed text in CP1250; `into` has room for as many bytes as were typed. What can't be converted is said, and nothing is put in its place. */
 enum status to_cp1250(const char *typed, uint8_t *into, size_t *length)
 {
@@ -39,13 +69,13 @@ enum status to_cp1250(const char *typed, uint8_t *into, size_t *length)
         size_t taken = code_point_at(at, &code);
         int byte;
         if (taken == 0) {
-            COMPLAIN("byte %zu of a name, 0x%02x, isn't UTF-8", "bajt %zu názvu, 0x%02x, není UTF-8", (size_t)(at - (const uint8_t *)typed) + 1, *at);
+            COMPLAIN("byte %zu of a name, 0x%02x, isn't UTF-8", "bajt %zu názvu, 0x%02x, není v UTF-8", (size_t)(at - (const uint8_t *)typed) + 1, *at);
             return WRONG_USE;
         }
         byte = cp1250_byte(code);
         if (byte < 0) {
             COMPLAIN("\"%s\": the character U+%04" PRIX32 " isn't in CP1250, in which the names of stops are written",
-                     "\"%s\": znak U+%04" PRIX32 " není v CP1250, v němž jsou názvy zastávek zapsány", typed, code);
+                     "\"%s\": znak U+%04" PRIX32 " není v kódování CP1250, v němž jsou názvy zastávek zapsány", plain(typed), code);
             return WRONG_USE;
         }
         into[(*length)++] = (uint8_t)byte;

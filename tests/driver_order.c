@@ -1,16 +1,14 @@
 /* The requests on the order of a batch: the files are those of request B. A file of its own, so that the driver can be built before the archive has this call. */
-#define _GNU_SOURCE
 #include "driver.h"
 
 #include <stdio.h>
 #include <stdlib.h>
 #include <string.h>
-#include <sys/mman.h>
 
 #include "../host/slovdrim.h"
 
 /* What the offsets are written into. */
-static struct room lists[2];
+static struct lent list;
 
 /* The list that a request brought, and what it held after the call. */
 static uint8_t given[1 << 20], held[1 << 20];
@@ -38,28 +36,15 @@ static size_t take_list(void)
     return length;
 }
 
-/* Where the list stands: as the files do, or NULL if it is empty and they stand as NULL where they are empty. */
-static struct room *room_for(enum placing where, size_t length, size_t *at)
-{
-    enum placing own = where == AT_START ? AT_START : AT_END;
-    *at = placed(own, length);
-    return &lists[own];
-}
-
-/* Makes the call on the files as they are placed, with the list that was given; 1 if bytes beside the list changed. What the list holds afterwards goes to
-   `after`. */
+/* Makes the call on the files as they are placed, with the list that was given, which stands as they do, or is NULL if it is empty and they are NULL where they
+   are empty; 1 if bytes beside the list changed. What the list holds afterwards goes to `after`. */
 static int call_order(slovdrim_order_answer *a, size_t length, uint8_t *after, enum placing where)
 {
-    size_t at;
-    struct room *room = room_for(where, length, &at);
-    uint32_t *list = where == NOWHERE && length == 0 ? NULL : (uint32_t *)(void *)(room->lent + at);
-    uint8_t mark = (uint8_t)(0x5a ^ (length / 4));
-    memcpy(room->own + at, given, length);
-    set_beside(room->own, at, length, mark);
-    about_to("slovdrim_order", length / 4, 0, 0, where, (const uint8_t *)list, length);
-    *a = slovdrim_order(EACH_FILE, list, length / 4);
-    memcpy(after, room->own + at, length);
-    return beside_changed(room->own, at, length, mark);
+    uint32_t *to = (uint32_t *)(void *)lend_to_write(&list, where, given, length);
+    about_to("slovdrim_order", length / 4, 0, 0, where, (const uint8_t *)to, length);
+    *a = slovdrim_order(EACH_FILE, to, length / 4);
+    memcpy(after, left_at(&list, where), length);
+    return beside_changed(&list, where);
 }
 
 /* The third placing is another than the first where something is empty. */
@@ -110,46 +95,47 @@ static void in_order(int each_placing)
 static void order_of_huge(void)
 {
     uint64_t file = take_word(), length = take_word();
-    uint8_t *bytes = mmap(NULL, length, PROT_READ, MAP_PRIVATE | MAP_ANONYMOUS | MAP_NORESERVE, -1, 0);
+    const uint8_t *bytes = lend_huge(length, 1);
     size_t of_list = take_list();
     slovdrim_order_answer a;
     int beside;
-    if (file < 1 || file > FILES || bytes == MAP_FAILED)
-        give_up("no addresses for a huge file");
+    if (file < 1 || file > FILES)
+        give_up("no such file");
     place_batch(AT_END);
     batch.bytes[file - 1] = bytes;
     batch.length[file - 1] = length;
     beside = call_order(&a, of_list, held, AT_END);
     give_order(&a, beside ? 100 : 0, of_list);
-    munmap(bytes, length);
+    take_back_huge(bytes, length);
 }
 
-/* The check of the batch with the list that the library makes of it, where it was made, in room for so many numbers. */
+/* The check of the batch with the list that the library makes of it, where it was made, in room for so many numbers; if none is made, that refusal. */
 static void check_in_order(void)
 {
-    size_t at, length = take_length();
-    uint64_t answers[PLACINGS][WORDS];
+    size_t length = take_length();
+    uint64_t answers[PLACINGS][WORDS] = {{0}};
     enum placing where = by_turns(placings_with(length));
-    struct room *room = room_for(where, length, &at);
+    const uint8_t *at;
     slovdrim_order_answer made;
     slovdrim_check_answer a;
     memset(given, 0xa5, length);
     place_batch(where);
     call_order(&made, length, held, where);
-    if (made.number != 0 || made.written > length / 4)
-        give_up("no order to check a batch with");
-    about_to("slovdrim_check_hinted", made.written, 0, 0, where, room->lent + at, length);
-    a = slovdrim_check_hinted(EACH_FILE, (const uint32_t *)(const void *)(room->lent + at), made.written);
-    memcpy(answers[0], &a, sizeof a);
+    if (made.number != 0) {
+        memcpy(answers[0], &made, sizeof made);
+    } else {
+        at = lent_at(&list, where == AT_START ? AT_START : AT_END);
+        about_to("slovdrim_check_hinted", made.written, 0, 0, where, at, length);
+        a = slovdrim_check_hinted(EACH_FILE, (const uint32_t *)(const void *)at, made.written);
+        memcpy(answers[0], &a, sizeof a);
+    }
     give_answers(answers, 1, sizeof a / 8);
 }
 
 int order_request(uint8_t letter)
 {
-    int i;
-    if (lists[0].own == NULL)
-        for (i = 0; i < 2; i++)
-            lists[i] = room_of(1);
+    if (list.rooms[0].own == NULL)
+        open_lent(&list, 1);
     switch (letter) {
     case 'p':
     case 'P':

@@ -81,7 +81,7 @@ fn stop(key: &str) -> Record {
     texts(&[key, "A", "", "", "", "SK", "", "", "", "", "", ""])
 }
 
-/// A time code, 25 bytes with its three numbers left out.
+/// A time code, 29 bytes with its three numbers left out.
 fn time_code(key: &[&str]) -> Record {
     texts(&[key, &["10", "5", "", "", ""]].concat())
 }
@@ -312,27 +312,24 @@ fn ways() -> Vec<String> {
     all
 }
 
-/// How often each number of slovdrim_order was met.
+/// How often each number of slovdrim_order was met, and how often the check was asked with what it wrote.
 pub fn by_number(met: &mut Met, report: &Report) {
     let of = |number: u64| report.tally.iter().filter(|((call, n, _), _)| *call == "slovdrim_order" && *n == number).map(|(_, n)| n).sum::<u64>();
     met.line("slovdrim_order by number", (0..=6).chain([22]).map(|n| (n.to_string(), of(n))).collect());
-}
-
-/// How often each number of the check was met with the library's own order.
-pub fn own_checks(met: &mut Met, report: &Report) {
-    let of = |number: u64| report.tally.get(&("slovdrim_check_hinted", number, OWN)).copied().unwrap_or(0);
-    met.line("slovdrim_check_hinted with the order of slovdrim_order, by number", [0, 7, 8, 9, 10, 11].map(|n| (n.to_string(), of(n))).to_vec());
+    let own = report.tally.iter().filter(|((_, _, kind), _)| *kind == OWN).map(|(_, n)| n).sum();
+    met.line("slovdrim_check_hinted with the order of slovdrim_order,", vec![("calls".to_string(), own)]);
 }
 
 /// Prints how often each number, each room with each number that it can have, and each thing that a batch shows was met.
 pub fn told(report: &mut Report) {
     let mut met = Met::default();
     by_number(&mut met, report);
+    let checked = |number: u64| report.tally.get(&("slovdrim_check_hinted", number, OWN)).copied().unwrap_or(0);
+    met.line("the same by number", [0, 7, 8, 9, 10, 11].map(|n| (n.to_string(), checked(n))).to_vec());
     for (room, numbers) in ROOMS {
         let of = |number: u64| report.tally.get(&("slovdrim_order", number, room)).copied().unwrap_or(0);
         met.line(&format!("slovdrim_order, room: {}, by number", room), numbers.iter().map(|&n| (n.to_string(), of(n))).collect());
     }
-    own_checks(&mut met, report);
     met.ways(report, ways());
     met.finish(report);
 }

@@ -1,4 +1,4 @@
--- The version of the interface: a number that grows when a call changes.
+-- The version of the interface: a number that grows when a call changes or comes.
 use Prim.Native.Nat.{ℕ}
 use mathlib.Core.Path.{_≡_}
 

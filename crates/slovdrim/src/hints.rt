@@ -25,20 +25,5 @@ pub extern "C" fn slovdrim_order<'a>(
 ) -> HintResult
     ensures { λ r. ⌜ HintGives (thirteen (now (f1 .entry)) (now (f2 .entry)) (now (f3 .entry)) (now (f4 .entry)) (now (f5 .entry)) (now (f6 .entry)) (now (f7 .entry)) (now (f8 .entry)) (now (f9 .entry)) (now (f10 .entry)) (now (f11 .entry)) (now (f12 .entry)) (now (f13 .entry))) (now (list .entry)) (r, now (list .exit)) ⌝ }
 {
-    hint_handed(arrange(
-        f1,
-        f2,
-        f3,
-        f4,
-        f5,
-        f6,
-        f7,
-        f8,
-        f9,
-        f10,
-        f11,
-        f12,
-        f13,
-        list,
-    ))
+    hint_handed(arrange(f1, f2, f3, f4, f5, f6, f7, f8, f9, f10, f11, f12, f13, list))
 }

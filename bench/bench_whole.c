@@ -110,6 +110,20 @@ static void compare_answers(const struct size *size, const struct batch *b)
     }
 }
 
+/* The library's hint beside the one that the batch was made with. */
+static void compare_order(struct batch *b)
+{
+    uint32_t *own = b->order;
+    size_t count = b->count;
+    b->order = NULL;
+    library_order(b);
+    if (b->count != count || memcmp(b->order, own, count * sizeof *own) != 0) {
+        fprintf(stderr, "bench: the hint is another, batch of %.1f MB\n", (double)batch_length(b) / 1e6);
+        exit(1);
+    }
+    free(own);
+}
+
 /* The kilometre of the first trip's first stop. */
 static uint8_t *first_kilometre(const struct batch *b)
 {
@@ -137,6 +151,7 @@ static void open_side(struct size *size, struct side *side, int rounds)
     struct batch *b = &side->batch;
     int i;
     compare("the batch", b, 0);
+    compare_order(b);
     compare_answers(size, b);
     compare_damaged(b, size->length < SMALL ? damage_count : FEW_DAMAGES);
     side->kilometre = first_kilometre(b);

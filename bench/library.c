@@ -20,6 +20,7 @@ slovdrim_sale_answer *fill_sale_hinted(slovdrim_sale_answer *out, PAIRS, const u
 slovdrim_sales_answer *fill_sales(slovdrim_sales_answer *out, PAIRS, const uint32_t *, size_t, const uint64_t *, size_t, const uint64_t *, size_t, uint64_t *,
                                   size_t) __asm__("slovdrim_sales");
 slovdrim_stop_answer *fill_stop_hinted(slovdrim_stop_answer *out, PAIRS, const uint32_t *, size_t, PAIR, PAIR, PAIR) __asm__("slovdrim_stop_hinted");
+slovdrim_order_answer *fill_order(slovdrim_order_answer *out, PAIRS, uint32_t *, size_t) __asm__("slovdrim_order");
 #define ANSWER(name, ...)                                                                                                                                    \
     fill_##name(&a, __VA_ARGS__);                                                                                                                            \
     return a
@@ -72,7 +73,23 @@ slovdrim_stop_answer library_stop(const struct batch *b, const struct plain_text
     ANSWER(stop_hinted, ALL(b), HINT(b), name[0].at, name[0].length, name[1].at, name[1].length, name[2].at, name[2].length);
 }
 
+static slovdrim_order_answer order_into(const struct batch *b, uint32_t *list, size_t count)
+{
+    slovdrim_order_answer a;
+    ANSWER(order, ALL(b), list, count);
+}
+
 void library_order(struct batch *b)
 {
-    batch_order(b);
+    size_t room = 0;
+    unsigned file;
+    slovdrim_order_answer a;
+    for (file = 2; file <= 10; file++)
+        room += b->length[file] / 11;
+    free(b->order);
+    b->order = malloc((room + 1) * sizeof *b->order);
+    if (b->order == NULL)
+        exit(2);
+    a = order_into(b, b->order, room);
+    b->count = a.number == SLOVDRIM_ANSWER ? a.written : 0;
 }

@@ -37,8 +37,8 @@ static int steers_terminals(uint32_t code)
     return code < 32 || (code >= 127 && code < 160);
 }
 
-/* A text from the command line, as it may be shown: control characters, and bytes that are no UTF-8, by their numbers, since the name of a folder may be anybody's.
-   A text that has none is shown as it is; of another a copy is made, which lasts as long as the program. */
+/* A text from the command line, as it may be shown: control characters, and bytes that are no UTF-8, by their numbers, since the name of a folder may be
+   anybody's. The copy lasts as long as the program. */
 const char *plain(const char *typed)
 {
     const uint8_t *at = (const uint8_t *)typed;

@@ -92,7 +92,7 @@ def answers_after_dots(desk):
     for batch, question, language in questions:
         batch.feed(0)
         answer = without_terminal(desk + question, language).stdout.decode()
-        batch.feed(1.3)
+        batch.feed(1.6)
         compare(f"desk {question} at a terminal", PROGRESS[language] + re.escape(answer.replace("\n", "\r\n")), at_terminal(desk + question, language))
 
 
@@ -101,11 +101,11 @@ def dots_go_on(desk):
     os.remove("slower/Mistenky.txt")
     missing = r"desk: slower/Mistenky\.txt is missing and counts as empty\n"
     accepted = r"ACCEPTED stops 9 lines 2 trips 4 trip stops 30\n"
-    slow.feed(2.6)
+    slow.feed(3.4)
     two = PROGRESS[ENGLISH].replace(r"\.+", r"\.\.+")
     later = f"({PROGRESS[ENGLISH]})?"
     compare("a missing file after the dots", (two + missing + later + accepted).replace(r"\n", r"\r?\n"), at_terminal(desk + ["check", "slower"]))
-    slow.feed(1.3)
+    slow.feed(1.6)
     quiet = without_terminal(desk + ["check", "slower"])
     compare("no terminal, standard output", accepted, quiet.stdout.decode())
     compare("no terminal, standard error", missing, quiet.stderr.decode())

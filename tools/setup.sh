@@ -67,6 +67,7 @@ need_tests() {
     fi
     need rustc rustc
     need python3 python3
+    need setpriv util-linux
 }
 
 if [ "$machine" = x86_64 ]; then

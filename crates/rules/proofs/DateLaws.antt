@@ -40,9 +40,9 @@ in-year d m d′ m′ y r k h =
     either (ltb m m′)
     (λ e. month-before d m d′ m′ y r (ltb-true m m′ e))
     (λ e.
-        let a : m ≡ m′ = omega (arith, ltb-false m m′ e) in
-        let b : d < d′ = omega arith in
-        subst (λ (i : ℕ). dayNumber d m y < dayNumber d′ i y) a (day-before d d′ m y (r .first-day) b))
+    let a : m ≡ m′ = omega (arith, ltb-false m m′ e) in
+    let b : d < d′ = omega arith in
+    subst (λ (i : ℕ). dayNumber d m y < dayNumber d′ i y) a (day-before d d′ m y (r .first-day) b))
 
 -- a smaller rank, the same rank
 ranks-below : (d m y d′ m′ y′ : ℕ) → Real d m y → Real d′ m′ y′ → rank d m y < rank d′ m′ y′ → dayNumber d m y < dayNumber d′ m′ y′
@@ -52,9 +52,9 @@ ranks-below d m y d′ m′ y′ r s h =
     either (ltb y y′)
     (λ e. year-before d m y d′ m′ y′ r (ltb-true y y′ e))
     (λ e.
-        let a : y ≡ y′ = omega (arith, ltb-false y y′ e) in
-        let b : m * 100 + d < m′ * 100 + d′ = omega arith in
-        subst (λ (i : ℕ). dayNumber d m y < dayNumber d′ m′ i) a (in-year d m d′ m′ y r k b))
+    let a : y ≡ y′ = omega (arith, ltb-false y y′ e) in
+    let b : m * 100 + d < m′ * 100 + d′ = omega arith in
+    subst (λ (i : ℕ). dayNumber d m y < dayNumber d′ m′ i) a (in-year d m d′ m′ y r k b))
 
 ranks-same : (d m y d′ m′ y′ : ℕ) → Real d m y → Real d′ m′ y′ → rank d m y ≡ rank d′ m′ y′ → dayNumber d m y ≡ dayNumber d′ m′ y′
 ranks-same d m y d′ m′ y′ r s h =
@@ -72,8 +72,8 @@ ranks-to d m y d′ m′ y′ r s h =
     either (ltb (rank d m y) (rank d′ m′ y′))
     (λ e. omega (arith, ranks-below d m y d′ m′ y′ r s (ltb-true (rank d m y) (rank d′ m′ y′) e)))
     (λ e.
-        let a : rank d m y ≡ rank d′ m′ y′ = omega (arith, ltb-false (rank d m y) (rank d′ m′ y′) e) in
-        omega (arith, ranks-same d m y d′ m′ y′ r s a))
+    let a : rank d m y ≡ rank d′ m′ y′ = omega (arith, ltb-false (rank d m y) (rank d′ m′ y′) e) in
+    omega (arith, ranks-same d m y d′ m′ y′ r s a))
 
 -- so the ranks of two real dates compare as their day numbers do
 pub ranks-order : (d m y d′ m′ y′ : ℕ) → Real d m y → Real d′ m′ y′

@@ -1,4 +1,4 @@
--- What is known of a record before its rules are asked: it was cut, and all its fields are of their kinds.
+-- What is known of a record before its rules are asked: it was cut, and all its fields are of their kinds. And by what dates are compared.
 use Prim.Native.Nat.{ℕ, _+_, _*_}
 use mathlib.Core.Path.{_≡_}
 use mathlib.Core.Bool.{true}
@@ -23,7 +23,7 @@ pub record Kinded (file : ℕ) (s places : List ℕ) : Type 0 where
 abbrev pub DateOrNone : Text → Type 0
 DateOrNone t = oneOf (isEmpty t) (isDateText t) ≡ true
 
--- a date's digits as one number, which puts dates in the order of their days
+-- a date's digits as one number, by which dates stand in the order of their days (`ranks-order` in proofs/DateLaws.antt)
 abbrev pub rank : ℕ → ℕ → ℕ → ℕ
 rank d m y = y * 10000 + m * 100 + d
 

@@ -55,7 +55,7 @@ fn digits_at(t: &[u8], at: usize, n: usize) -> u64
     value_of(&t[at..at + n])
 }
 
-// A date's digits as one number, year before month before day: it rises with the day, and no days are counted.
+// A date's digits as one number, year before month before day: it rises with the day number, and is had without counting days.
 fn rank_of(t: &[u8]) -> u64
     requires { ⌜ isDateText (now t) ≡ true ⌝ }
     ensures { λ r. ⌜ r ≡ ranked (now (t .entry)) ⌝ }

@@ -44,9 +44,13 @@ pub lead-four : (s : List ℕ) (i : ℕ) → i + 4 ≤ length s → (getD s i 0 
 lead-four s i h a b c d =
     let to : (j k : ℕ) → j + 1 ≡ k → j < length s → (getD s j 0 ≡ 10 → ⊥) → lead (drop j s) ≡ suc (lead (drop k s)) =
     λ j k e l m. rw e at (lead-miss s j l m) in
-    omega
-    (arith, lead-miss s i (omega arith) a, to (i + 1) (i + 2) (omega arith) (omega arith) b, to (i + 2) (i + 3) (omega arith) (omega arith) c,
-    to (i + 3) (i + 4) (omega arith) (omega arith) d)
+    omega (
+      arith,
+      lead-miss s i (omega arith) a,
+      to (i + 1) (i + 2) (omega arith) (omega arith) b,
+      to (i + 2) (i + 3) (omega arith) (omega arith) c,
+      to (i + 3) (i + 4) (omega arith) (omega arith) d,
+    )
 
 -- bytes with no LF among them
 unfoldable Plain : List ℕ → Type 0

@@ -17,8 +17,7 @@ returns c =
     let p = first .plain .ensures in
     let q = second .plain2 .ensures in
     let r = third .plain3 .ensures in
-    let z = c .plain4 .ensures in
-    (
+    let z = c .plain4 .ensures in (
       omega (arith, p .0, q .0, r .0, z .0),
       λ e.
           let sum : first .plain .result + second .plain2 .result + third .plain3 .result + c .plain4 .result ≡ 4 = e in

@@ -2,7 +2,7 @@
    Exit status: 0 answered, 1 refused, 2 wrong use or a file that can't be read.
 
    The library judges: what it refuses is refused, with its number. The host reads files and arguments, shows names and times of a batch that the library
-   accepted, and refuses by itself only a stop number that the batch doesn't have, and more pairs of tariff numbers than it asks about (desk trips). */
+   accepted, and refuses by itself only a stop number that the batch doesn't have (desk trips). */
 #include "desk.h"
 
 #include <string.h>
@@ -36,7 +36,7 @@ static const struct command *command_named(const char *name)
 
 static enum status see_help(void)
 {
-    tell(stderr, "desk --help shows how it is used\n", "jak se používá, ukáže desk --help\n");
+    tell(stderr, "desk --help shows how it is used\n", "nápovědu zobrazí desk --help\n");
     return WRONG_USE;
 }
 
@@ -52,11 +52,11 @@ static int take_option(const char *option, const char *next, struct arguments *a
         return 1;
     }
     if (strcmp(option, "--holidays") != 0) {
-        COMPLAIN("there is no option %s", "přepínač %s není", option);
+        COMPLAIN("there is no option %s", "přepínač %s neexistuje", plain(option));
         return 0;
     }
     if (next == NULL || arguments->holidays != NULL) {
-        COMPLAIN("%s is followed by the name of one file, and stands once", "za %s následuje název jednoho souboru, a je jen jednou", option);
+        COMPLAIN("%s is followed by the name of one file, and stands once", "za %s následuje název souboru a přepínač se uvádí jen jednou", option);
         return 0;
     }
     arguments->holidays = next;
@@ -101,12 +101,12 @@ static enum status check_holidays(const struct command *command, const struct ar
     if (!command->asks_of_a_day && !said && !said_none)
         return ANSWERED;
     if (!command->asks_of_a_day)
-        COMPLAIN("%s has no list of holidays", "%s nemá seznam svátků", command->name);
+        COMPLAIN("%s has no list of holidays", "příkaz %s seznam svátků nepoužívá", command->name);
     else if (said)
-        COMPLAIN("%s has either --holidays or --no-holidays", "%s má buď --holidays, nebo --no-holidays", command->name);
+        COMPLAIN("%s has either --holidays or --no-holidays", "příkaz %s má buď --holidays, nebo --no-holidays, ne obojí", command->name);
     else
-        COMPLAIN("%s needs the list of holidays, or --no-holidays if there are none", "%s potřebuje seznam svátků, nebo --no-holidays, pokud žádné nejsou",
-                 command->name);
+        COMPLAIN("%s needs the list of holidays, or --no-holidays if there are none",
+                 "příkaz %s potřebuje seznam svátků, nebo --no-holidays, pokud žádné nejsou", command->name);
     return WRONG_USE;
 }
 
@@ -128,13 +128,13 @@ static enum status run(int argc, char **argv)
         return see_help();
     command = command_named(arguments.given[0]);
     if (command == NULL) {
-        COMPLAIN("there is no command %s", "příkaz %s není", arguments.given[0]);
+        COMPLAIN("there is no command %s", "příkaz %s neexistuje", plain(arguments.given[0]));
         return see_help();
     }
     arguments.count--;
     memmove(arguments.given, arguments.given + 1, sizeof arguments.given - sizeof arguments.given[0]);
     if (arguments.count < command->least || arguments.count > command->most) {
-        COMPLAIN("%s has another number of arguments", "%s má jiný počet argumentů", command->name);
+        COMPLAIN("%s has another number of arguments", "příkaz %s má jiný počet argumentů", command->name);
         return wrong_use_of(command);
     }
     if (check_holidays(command, &arguments) != ANSWERED)
@@ -147,7 +147,7 @@ int main(int argc, char **argv)
     enum status status;
     choose_language();
     if (slovdrim_version() != SLOVDRIM_VERSION) {
-        tell(stderr, "desk: the library is not of this header's version\n", "desk: knihovna není z verze tohoto programu\n");
+        tell(stderr, "desk: the library is not of this header's version\n", "desk: knihovna je jiné verze než tento program\n");
         return WRONG_USE;
     }
     status = run(argc, argv);

@@ -30,6 +30,7 @@ struct text {
     size_t length;
 };
 void show(FILE *to, struct text text);
+const char *plain(const char *typed);
 enum status to_cp1250(const char *typed, uint8_t *into, size_t *length);
 
 /* desk_dates.c: numbers, dates and lists of holidays, as people type them. */
@@ -87,7 +88,7 @@ struct text find(const struct file *file, unsigned keys, uint64_t first, uint64_
 void show_stop(FILE *to, const struct batch *batch, uint64_t stop);
 void show_line_name(FILE *to, const struct batch *batch, uint64_t line);
 
-/* desk_wait.c: what people see while the library works. */
+/* desk_wait.c: what people see while a batch is read and checked. read_batch begins it; the answer is shown after its end. */
 void begin_waiting(void);
 void end_waiting(void);
 

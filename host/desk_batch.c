@@ -18,13 +18,19 @@ const char *why_not(int error)
 {
     switch (error) {
     case ENOENT:
-        return either("it isn't there", "není tam");
+        return either("it isn't there", "neexistuje");
     case EACCES:
         return either("no permission", "chybí oprávnění");
     case EISDIR:
         return either("it is a directory", "je to adresář");
     case ENOTDIR:
         return either("it is no directory", "není to adresář");
+    case ELOOP:
+        return either("it is a link that leads back to itself", "je to odkaz, který vede zpět k sobě");
+    case ENAMETOOLONG:
+        return either("the name is too long", "název je příliš dlouhý");
+    case EIO:
+        return either("reading failed", "čtení selhalo");
     default:
         return strerror(error);
     }
@@ -50,12 +56,18 @@ static enum reading read_from(FILE *from, struct file *file)
             return NO_MEMORY;
         taken = fread(file->bytes + file->length, 1, room - file->length, from);
         file->length += taken;
-    } while (taken > 0 && file->length < MOST_BYTES);
+    } while (taken > 0 && !ferror(from) && file->length < MOST_BYTES);
     return ferror(from) ? NOT_READ : READ_WHOLE;
 }
 
+static int is_there(const char *path)
+{
+    struct stat found;
+    return lstat(path, &found) == 0;
+}
+
 /* The bytes of a file. Of one that is longer than the library reads it takes one byte more than that, which gives the same verdict. The file is copied and
-   not mapped, so that it may be cut meanwhile. errno says why it was not read. */
+   not mapped, so that it may be cut meanwhile. A link to nothing is there and isn't read. errno says why it was not read. */
 enum reading read_bytes(const char *path, struct file *file)
 {
     enum reading outcome;
@@ -64,7 +76,7 @@ enum reading read_bytes(const char *path, struct file *file)
     file->bytes = NULL;
     file->length = 0;
     if (from == NULL)
-        return errno == ENOENT ? MISSING : NOT_READ;
+        return errno == ENOENT && !is_there(path) ? MISSING : NOT_READ;
     errno = 0;
     outcome = read_from(from, file);
     error = errno;
@@ -76,6 +88,14 @@ enum reading read_bytes(const char *path, struct file *file)
     }
     errno = error;
     return outcome;
+}
+
+static enum status refuse_file(const char *path, int error)
+{
+    end_waiting();
+    COMPLAIN("%s can't be read: %s", "%s nelze přečíst: %s", plain(path),
+             error == ENOENT ? either("it is a link to nothing", "je to odkaz, který nikam nevede") : why_not(error));
+    return WRONG_USE;
 }
 
 /* A missing file counts as empty, and that is said. */
@@ -91,11 +111,12 @@ static enum status read_file(const char *folder, unsigned number, struct file *f
     case READ_WHOLE:
         break;
     case MISSING:
-        COMPLAIN("%s is missing and counts as empty", "%s chybí a platí za prázdný", path);
+        end_waiting();
+        COMPLAIN("%s is missing and counts as empty", "soubor %s chybí a považuje se za prázdný", plain(path));
+        begin_waiting();
         break;
     case NOT_READ:
-        COMPLAIN("%s can't be read: %s", "%s nelze přečíst: %s", path, why_not(errno));
-        status = WRONG_USE;
+        status = refuse_file(path, errno);
         break;
     case NO_MEMORY:
         status = no_memory();
@@ -108,19 +129,16 @@ static enum status read_file(const char *folder, unsigned number, struct file *f
 static enum status look_for_folder(const char *folder)
 {
     struct stat found;
+    int error;
     if (stat(folder, &found) == 0) {
         if (S_ISDIR(found.st_mode))
             return ANSWERED;
         errno = ENOTDIR;
     }
-    COMPLAIN("\"%s\" can't be read: %s", "\"%s\" nelze přečíst: %s", folder, why_not(errno));
+    error = errno;
+    COMPLAIN("\"%s\" can't be read: %s", "\"%s\" nelze přečíst: %s", plain(folder), why_not(error));
     return WRONG_USE;
 }
-
-struct place {
-    uint64_t key[3];
-    uint32_t start;
-};
 
 static void key_of(struct text record, unsigned keys, uint64_t key[3])
 {
@@ -136,13 +154,6 @@ static int compare_keys(const uint64_t a[3], const uint64_t b[3])
         if (a[i] != b[i])
             return a[i] < b[i] ? -1 : 1;
     return 0;
-}
-
-static int by_key(const void *a, const void *b)
-{
-    const struct place *x = a, *y = b;
-    int keys = compare_keys(x->key, y->key);
-    return keys != 0 ? keys : (x->start > y->start) - (x->start < y->start);
 }
 
 /* Whether the keys strictly rise from record to record, and how many records there are. */
@@ -161,54 +172,47 @@ static int keys_rise(const struct file *file, unsigned keys, size_t *records)
     return rise;
 }
 
-/* Appends the starts of one file's records, by rising key. */
-static int append_order(struct batch *batch, const struct file *file, unsigned keys, size_t records)
+/* How many places the list has that slovdrim.h describes at slovdrim_order: the records of the files whose keys don't rise. */
+static size_t places_of(const struct batch *batch)
 {
-    struct place *places = malloc(records * sizeof *places);
-    uint32_t *order = realloc(batch->order, (batch->order_count + records) * sizeof *order);
-    struct text record;
-    size_t i = 0;
-    if (order != NULL)
-        batch->order = order;
-    if (places == NULL || order == NULL) {
-        free(places);
-        return 0;
-    }
-    for (record = first_record(file); record.length > 0; record = next_record(file, record)) {
-        key_of(record, keys, places[i].key);
-        places[i++].start = (uint32_t)(record.bytes - file->bytes);
-    }
-    qsort(places, records, sizeof *places, by_key);
-    for (i = 0; i < records; i++)
-        batch->order[batch->order_count++] = places[i].start;
-    free(places);
-    return 1;
+    size_t places = 0, records;
+    unsigned n;
+    for (n = SLOVDRIM_ZASTAVKY; n <= SLOVDRIM_CASKODY; n++)
+        if (!keys_rise(&batch->files[n], kinds[n].keys, &records))
+            places += records;
+    return places;
 }
 
-/* The list that slovdrim.h describes at slovdrim_check_hinted. It changes no answer, so a file that can't be legal, having more lines than its bytes have
-   room for records, is left out; and so is the rest if there is no memory for it. */
+/* The hint, for a batch that has a file whose keys don't rise. It changes no answer: where there is none, since a file is refused by itself or since there
+   is no memory, the batch is judged without it. */
 static void find_order(struct batch *batch)
 {
-    unsigned n;
-    for (n = SLOVDRIM_ZASTAVKY; n <= SLOVDRIM_CASKODY; n++) {
-        const struct file *file = &batch->files[n];
-        size_t records, shortest = 3 * (size_t)kinds[n].fields + 2;
-        if (keys_rise(file, kinds[n].keys, &records) || records > file->length / shortest)
-            continue;
-        if (!append_order(batch, file, kinds[n].keys, records))
-            return;
+    size_t places = places_of(batch);
+    uint32_t *list = places == 0 || places > SIZE_MAX / sizeof *list ? NULL : malloc(places * sizeof *list);
+    slovdrim_order_answer answer;
+    if (list == NULL)
+        return;
+    answer = slovdrim_order(EACH_FILE(batch), list, places);
+    if (answer.number != SLOVDRIM_ANSWER) {
+        free(list);
+        return;
     }
+    batch->order = list;
+    batch->order_count = answer.written;
 }
 
+/* The waiting begins here, and goes on for whoever has the batch judged. */
 enum status read_batch(const char *folder, struct batch *batch)
 {
     enum status status;
     unsigned n;
     memset(batch, 0, sizeof *batch);
     status = look_for_folder(folder);
+    begin_waiting();
     for (n = 1; n <= FILES && status == ANSWERED; n++)
         status = read_file(folder, n, &batch->files[n]);
     if (status != ANSWERED) {
+        end_waiting();
         free_batch(batch);
         return status;
     }

@@ -8,7 +8,6 @@ enum status run_check(const struct arguments *arguments)
     enum status status = read_batch(arguments->given[0], &batch);
     if (status != ANSWERED)
         return status;
-    begin_waiting();
     a = slovdrim_check_hinted(EACH_FILE(&batch), batch.order, batch.order_count);
     end_waiting();
     if (a.number == SLOVDRIM_ANSWER)

@@ -23,7 +23,10 @@ enum status argument_number(const char *argument, uint64_t *number)
 {
     if (typed_number(argument, strlen(argument), number))
         return ANSWERED;
-    COMPLAIN("\"%s\" is no number", "\"%s\" není číslo", argument);
+    if (*argument != 0 && argument[strspn(argument, "0123456789")] == 0)
+        COMPLAIN("%s is larger than any number that can be asked about", "%s je větší než jakékoli číslo, na které se lze zeptat", argument);
+    else
+        COMPLAIN("\"%s\" is no number", "\"%s\" není číslo", plain(argument));
     return WRONG_USE;
 }
 
@@ -49,7 +52,8 @@ enum status argument_date(const char *argument, struct date *date)
 {
     if (typed_date(argument, strlen(argument), date))
         return ANSWERED;
-    COMPLAIN("\"%s\" is no date: dates are typed as 10.6.2001 or 2001-06-10", "\"%s\" není datum: datum se píše 10.6.2001 nebo 2001-06-10", argument);
+    COMPLAIN("\"%s\" is no date: dates are typed as 10.6.2001 or 2001-06-10", "\"%s\" není datum: datum se píše jako 10.6.2001 nebo 2001-06-10",
+             plain(argument));
     return WRONG_USE;
 }
 
@@ -97,7 +101,7 @@ static enum status read_days(const char *text, size_t length, struct holidays *h
         const char *line = bare_line(text + at, &bare);
         if (bare > 0 && !typed_day(line, bare, &holidays->days[holidays->count++])) {
             COMPLAIN("%s, line %zu names no day: dates are written as 10.6.2001 or 2001-06-10, or as a day number",
-                     "%s, řádek %zu neoznačuje den: datum se píše 10.6.2001 nebo 2001-06-10, nebo jako číslo dne", holidays->path, number);
+                     "%s, řádek %zu neurčuje žádný den: píše se datum jako 10.6.2001 nebo 2001-06-10, nebo číslo dne", plain(holidays->path), number);
             return WRONG_USE;
         }
         at += whole + 1;
@@ -118,7 +122,7 @@ static enum status days_of(const struct file *file, struct holidays *holidays)
     /* Editors of some systems begin a text in UTF-8 with these three bytes. */
     size_t mark = file->length >= 3 && memcmp(file->bytes, "\xef\xbb\xbf", 3) == 0 ? 3 : 0;
     if (file->length == MOST_BYTES) {
-        COMPLAIN("%s is too long for a list of holidays", "%s je na seznam svátků příliš dlouhý", holidays->path);
+        COMPLAIN("%s is too long for a list of holidays", "soubor %s je na seznam svátků příliš dlouhý", plain(holidays->path));
         return WRONG_USE;
     }
     holidays->days = malloc(count_lines(file) * sizeof *holidays->days);
@@ -132,6 +136,7 @@ enum status read_holidays(const char *path, struct holidays *holidays)
 {
     struct file file;
     enum status status;
+    int error;
     holidays->path = path;
     holidays->days = NULL;
     holidays->count = 0;
@@ -143,7 +148,8 @@ enum status read_holidays(const char *path, struct holidays *holidays)
     case NO_MEMORY:
         return no_memory();
     default:
-        COMPLAIN("%s can't be read: %s", "%s nelze přečíst: %s", path, why_not(errno));
+        error = errno;
+        COMPLAIN("%s can't be read: %s", "%s nelze přečíst: %s", plain(path), why_not(error));
         return WRONG_USE;
     }
     status = days_of(&file, holidays);
@@ -160,7 +166,7 @@ void warn_of_year(const struct holidays *holidays, const struct date *date)
     for (i = 0; i < holidays->count; i++)
         if (slovdrim_date(holidays->days[i]).year == date->year)
             return;
-    COMPLAIN("%s has no holiday of the year %" PRIu64, "%s nemá žádný svátek roku %" PRIu64, holidays->path, date->year);
+    COMPLAIN("%s has no holiday of the year %" PRIu64, "v seznamu %s není žádný svátek roku %" PRIu64, plain(holidays->path), date->year);
 }
 
 /* A real date with its weekday, and whether it is a holiday. */

@@ -26,7 +26,7 @@ static void show_line(const char *quote, struct text text)
     show(stdout, part);
     fputs(quote, stdout);
     if (part.length < text.length)
-        TELL(stdout, " (the first %zu bytes of %zu)", " (prvních %zu bajtů z %zu)", part.length, text.length);
+        TELL(stdout, " (the first %zu bytes of %zu)", " (prvních %zu bajtů z celkových %zu)", part.length, text.length);
     putchar('\n');
 }
 
@@ -65,31 +65,31 @@ static void show_begun_record(const struct file *file, uint64_t offset)
         }
     begun.bytes += start;
     begun.length = (size_t)(offset - start);
-    TELL(stdout, "record %" PRIu64 " up to there: ", "záznam %" PRIu64 " až tam: ", record);
+    TELL(stdout, "record %" PRIu64 " up to there: ", "záznam %" PRIu64 " do tohoto místa: ", record);
     show_line("", begun);
 }
 
 static void tell_not_legal(const struct file *file, uint64_t offset)
 {
     TELL(stdout, "at offset %" PRIu64 " no legal file goes on with the byte 0x%02x.\n",
-         "na místě %" PRIu64 " nemůže žádný správný soubor pokračovat bajtem 0x%02x.\n", offset, file->bytes[offset]);
+         "na pozici %" PRIu64 " nemůže žádný správný soubor pokračovat bajtem 0x%02x.\n", offset, file->bytes[offset]);
     show_begun_record(file, offset);
 }
 
 static void tell_ends_inside(const struct file *file, uint64_t offset)
 {
     TELL(stdout, "the file ends inside a record, after %" PRIu64 " bytes. Perhaps it was not copied whole.\n",
-         "soubor končí uvnitř záznamu, po %" PRIu64 " bajtech. Snad nebyl zkopírován celý.\n", offset);
+         "soubor končí uvnitř záznamu, po %" PRIu64 " bajtech. Možná nebyl zkopírován celý.\n", offset);
     show_begun_record(file, offset);
 }
 
 static void tell_wrong_version(const struct file *file, uint64_t record)
 {
     if (record != 0) {
-        tell(stdout, "the batch is not of JDF 1.8.\n", "dávka není v JDF 1.8.\n");
+        tell(stdout, "the batch is not of JDF 1.8.\n", "dávka není ve formátu JDF 1.8.\n");
         show_record(record, first_record(file));
     } else {
-        TELL(stdout, "it should have one record, \"1.8\", and has %" PRIu64 ".\n", "má mít jediný záznam, \"1.8\", a má jich %" PRIu64 ".\n",
+        TELL(stdout, "it should have one record, \"1.8\", and has %" PRIu64 ".\n", "má mít jediný záznam, \"1.8\", ale má jich %" PRIu64 ".\n",
              slovdrim_records(SLOVDRIM_VERZEJDF, file->bytes, file->length).records);
     }
 }
@@ -107,13 +107,13 @@ static void tell_rule(uint64_t file)
         tell(stdout, "a from-date is after its to-date.\n", "datum od je pozdější než datum do.\n");
         break;
     case SLOVDRIM_ZASSPOJE:
-        tell(stdout, "arrival, departure and kilometres don't go together.\n", "příjezd, odjezd a kilometry k sobě nepatří.\n");
+        tell(stdout, "arrival, departure and kilometres don't go together.\n", "příjezd, odjezd a kilometry si neodpovídají.\n");
         break;
     case SLOVDRIM_CASKODY:
-        tell(stdout, "mark, type and dates of the time code don't go together.\n", "označení, typ a data časového kódu k sobě nepatří.\n");
+        tell(stdout, "mark, type and dates of the time code don't go together.\n", "označení, typ a data časového kódu si neodpovídají.\n");
         break;
     default:
-        tell(stdout, "code, type and dates don't go together, or none of them is given.\n", "kód, typ a data k sobě nepatří, nebo není uvedeno nic z toho.\n");
+        tell(stdout, "code, type and dates don't go together, or none of them is given.\n", "kód, typ a data si neodpovídají, nebo není nic z toho uvedeno.\n");
     }
 }
 
@@ -124,7 +124,7 @@ static void tell_key_used(const struct file *file, struct refusal r, struct text
     struct text earlier = find(file, keys, key[0], key[1], key[2]), at;
     for (at = first_record(file); at.length > 0 && at.bytes != earlier.bytes; at = next_record(file, at))
         number++;
-    TELL(stdout, "record %" PRIu64 " has this key already.\n", "záznam %" PRIu64 " už tento klíč má.\n", number);
+    TELL(stdout, "record %" PRIu64 " has this key already.\n", "tento klíč už má záznam %" PRIu64 ".\n", number);
     show_record(number, earlier);
 }
 
@@ -166,7 +166,7 @@ static void tell_sign(const struct batch *batch, struct refusal r, struct text r
     if (differs_from_first(batch, r, record, sign))
         tell(stdout, ", which differs from that of the first code.\n", ", které se liší od označení prvního kódu.\n");
     else
-        tell(stdout, ", which can't stand here.\n", ", které tu nemůže být.\n");
+        tell(stdout, ", which can't stand here.\n", ", které zde není přípustné.\n");
 }
 
 /* The records of a trip in another file, in that file's order. */
@@ -190,7 +190,7 @@ static void tell_trip(const struct batch *batch, struct refusal r, struct text t
 {
     unsigned file = r.number == SLOVDRIM_DAYS_WRONG ? SLOVDRIM_CASKODY : SLOVDRIM_ZASSPOJE;
     if (r.number == SLOVDRIM_DAYS_WRONG)
-        tell(stdout, "the trip's time codes and day signs don't go together.\n", "časové kódy a denní značky spoje k sobě nepatří.\n");
+        tell(stdout, "the trip's time codes and day signs don't go together.\n", "časové kódy a značky dnů nelze u spoje takto spojit.\n");
     else
         tell(stdout, "the trip's stops, times or kilometres are wrong.\n", "zastávky, časy nebo kilometry spoje jsou chybné.\n");
     show_record(r.record, trip);
@@ -205,7 +205,7 @@ static void tell_record(const struct batch *batch, struct refusal r)
     struct text record = record_at(file, r.record);
     switch (r.number) {
     case SLOVDRIM_NOT_OF_ITS_KIND:
-        tell(stdout, "the field isn't what JDF 1.8 asks for here.\n", "pole neodpovídá tomu, co tu JDF 1.8 žádá.\n");
+        tell(stdout, "the field isn't what JDF 1.8 asks for here.\n", "pole neodpovídá tomu, co zde JDF 1.8 požaduje.\n");
         break;
     case SLOVDRIM_RULE_BROKEN:
         tell_rule(r.file);
@@ -255,7 +255,7 @@ enum status refuse_batch(const struct batch *batch, struct refusal r)
 enum status refuse_day(const struct date *date)
 {
     TELL(stdout, "REFUSED %d\n%" PRIu64 ".%" PRIu64 ".%" PRIu64 " is no day of the years 1900 to 2099. Ask for the date again.\n",
-         "REFUSED %d\n%" PRIu64 ".%" PRIu64 ".%" PRIu64 " není den z let 1900 až 2099. Zeptejte se na datum znovu.\n", SLOVDRIM_NO_SUCH_DAY, date->day,
+         "REFUSED %d\n%" PRIu64 ".%" PRIu64 ".%" PRIu64 " není platné datum z let 1900 až 2099. Zeptejte se na datum znovu.\n", SLOVDRIM_NO_SUCH_DAY, date->day,
          date->month, date->year);
     return REFUSED;
 }
@@ -264,7 +264,7 @@ enum status refuse_trip(uint64_t line, uint64_t trip)
 {
     TELL(stdout,
          "REFUSED %d\nThe batch has no line %" PRIu64 " with a trip %" PRIu64 ". Compare both numbers with the timetable; desk trips finds trips by their stops.\n",
-         "REFUSED %d\nDávka nemá linku %" PRIu64 " se spojem %" PRIu64 ". Porovnejte obě čísla s jízdním řádem; desk trips najde spoje podle zastávek.\n",
+         "REFUSED %d\nV dávce není linka %" PRIu64 " se spojem %" PRIu64 ". Porovnejte obě čísla s jízdním řádem; desk trips najde spoje podle zastávek.\n",
          SLOVDRIM_NO_SUCH_TRIP, line, trip);
     return REFUSED;
 }

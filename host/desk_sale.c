@@ -52,7 +52,7 @@ static enum status show_sale(const struct batch *batch, const struct question *q
 static enum status refuse_tariff(const struct question *q)
 {
     TELL(stdout, "REFUSED %d\nTrip %" PRIu64 " doesn't have both tariff numbers %" PRIu64 " and %" PRIu64 ". desk stops shows those that it has.\n",
-         "REFUSED %d\nSpoj %" PRIu64 " nemá obě tarifní čísla %" PRIu64 " a %" PRIu64 ". Která má, ukáže desk stops.\n", SLOVDRIM_NO_SUCH_TARIFF, q->trip,
+         "REFUSED %d\nSpoj %" PRIu64 " nemá obě tarifní čísla, %" PRIu64 " i %" PRIu64 ". Která má, ukáže desk stops.\n", SLOVDRIM_NO_SUCH_TARIFF, q->trip,
          q->from, q->to);
     return REFUSED;
 }
@@ -67,25 +67,25 @@ static void tell_not_sold(uint64_t number)
         break;
     case SLOVDRIM_NOT_BEFORE:
         tell(stdout, "The trip doesn't go from the first stop to the second. Offer a trip of the other direction: desk trips shows it.\n",
-             "Spoj nejede od první zastávky ke druhé. Nabídněte spoj opačného směru: ukáže jej desk trips.\n");
+             "Spoj nejede z první zastávky do druhé. Nabídněte spoj opačného směru: ukáže jej desk trips.\n");
         break;
     case SLOVDRIM_NO_DEPARTURE:
         tell(stdout,
              "Nobody may board at the first stop: the trip has no departure there, or stops for alighting or the customs only. "
              "Offer another stop to board.\n",
-             "V první zastávce nelze nastoupit: spoj tam nemá odjezd, nebo zastavuje jen pro výstup či celní odbavení. "
+             "Na první zastávce nelze nastoupit: spoj tam nemá odjezd, nebo zastavuje jen pro výstup či celní odbavení. "
              "Nabídněte jinou nástupní zastávku.\n");
         break;
     case SLOVDRIM_NO_ARRIVAL:
         tell(stdout,
              "Nobody may alight at the second stop: the trip has no time there, or stops for boarding or the customs only. "
              "Offer another stop to alight.\n",
-             "Ve druhé zastávce nelze vystoupit: spoj tam nemá čas, nebo zastavuje jen pro nástup či celní odbavení. "
+             "Na druhé zastávce nelze vystoupit: spoj tam nemá uveden čas, nebo zastavuje jen pro nástup či celní odbavení. "
              "Nabídněte jinou výstupní zastávku.\n");
         break;
     default:
         tell(stdout, "The trip carries nobody between these two stops: both are marked § in the timetable. Offer another line.\n",
-             "Mezi těmito dvěma zastávkami spoj cestující nepřepravuje: obě mají v jízdním řádu §. Nabídněte jinou linku.\n");
+             "Mezi těmito dvěma zastávkami spoj cestující nepřepravuje: obě mají v jízdním řádu značku §. Nabídněte jinou linku.\n");
     }
 }
 
@@ -104,7 +104,6 @@ static enum status refuse_sale(const struct batch *batch, const struct question 
 static enum status answer_sale(const struct batch *batch, const struct question *q, const struct holidays *holidays)
 {
     slovdrim_sale_answer a;
-    begin_waiting();
     a = slovdrim_sale_hinted(EACH_FILE(batch), batch->order, batch->order_count, holidays->days, holidays->count, q->line, q->trip, q->date.day,
                              q->date.month, q->date.year, q->from, q->to);
     end_waiting();

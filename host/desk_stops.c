@@ -46,7 +46,7 @@ static void show_time(struct text time)
 static void show_calls(const struct batch *batch, const struct call *calls, size_t count)
 {
     size_t i;
-    tell(stdout, "   tariff      stop arrives departs  name\n", "   tarif.  zastávka příjezd  odjezd  název\n");
+    tell(stdout, "   tariff      stop arrives departs  name\n", "tarif. č.  zastávka příjezd  odjezd  název\n");
     for (i = 0; i < count; i++) {
         uint64_t stop = number_at(calls[i].record, 4);
         printf("%9" PRIu64 " %9" PRIu64, calls[i].tariff, stop);
@@ -80,7 +80,6 @@ static enum status show_trip(const struct batch *batch, uint64_t line, uint64_t 
 static enum status answer_stops(const struct batch *batch, uint64_t line, uint64_t trip)
 {
     slovdrim_sale_answer a;
-    begin_waiting();
     a = slovdrim_sale_hinted(EACH_FILE(batch), batch->order, batch->order_count, NULL, 0, line, trip, 1, 1, 1900, 0, 0);
     end_waiting();
     if (of_the_batch(a.number))
@@ -129,7 +128,6 @@ static enum status read_name(const struct arguments *arguments, struct name *nam
 static enum status answer_stop(const struct batch *batch, const struct name *name)
 {
     slovdrim_stop_answer a;
-    begin_waiting();
     a = slovdrim_stop_hinted(EACH_FILE(batch), batch->order, batch->order_count, name->part[0], name->length[0], name->part[1], name->length[1],
                              name->part[2], name->length[2]);
     end_waiting();
@@ -144,13 +142,13 @@ static enum status answer_stop(const struct batch *batch, const struct name *nam
     printf("REFUSED %" PRIu64 "\n", a.number);
     if (a.number == SLOVDRIM_SEVERAL_NAMED)
         TELL(stdout, "%" PRIu64 " stops have this very name. The name alone doesn't say which one is meant.\n",
-             "Přesně tento název má více zastávek: %" PRIu64 ". Která je míněna, z názvu samého nevyplývá.\n", a.value);
+             "Přesně tento název má více zastávek: %" PRIu64 ". Která z nich je míněna, nelze z názvu poznat.\n", a.value);
     else
         tell(stdout,
              "No stop has this very name. Town, part of the town and place are compared letter by letter, with blanks and capitals as the carrier "
              "wrote them.\n",
-             "Přesně tento název nemá žádná zastávka. Obec, část obce a bližší místo se porovnávají písmeno po písmenu, s mezerami a velkými písmeny "
-             "dopravce.\n");
+             "Přesně tento název nemá žádná zastávka. Obec, část obce a bližší místo se porovnávají znak po znaku, včetně mezer a velkých písmen, "
+             "jak je zapsal dopravce.\n");
     return REFUSED;
 }
 

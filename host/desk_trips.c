@@ -1,13 +1,18 @@
 /* desk trips: all trips that may be sold between two stops on a day. The host gathers the questions, one for each pair of tariff numbers that a trip has for
-   the two stops, and the library answers them all with one check of the batch. */
+   the two stops, and asks the library in portions, of which a timetable fills no second one. */
 #include "desk.h"
 
 #include <stdlib.h>
 
+/* How many questions one call of slovdrim_sales takes. Each call checks the batch again. tests/desk builds a second host with few at once. */
+#ifndef QUESTIONS_AT_ONCE
+#define QUESTIONS_AT_ONCE 16384
+#endif
+
 enum {
-    ASKED = 7,   /* numbers of a question of slovdrim_sales: line, trip, day, month, year, from, to */
-    GIVEN = 3,   /* and of an answer: number, departure, arrival */
-    MOST_QUESTIONS = 1000000, /* no timetable comes near; a batch made for it could ask for more than any memory has */
+    ASKED = 7, /* numbers of a question of slovdrim_sales: line, trip, day, month, year, from, to */
+    GIVEN = 3, /* and of an answer: number, departure, arrival */
+    FIRST_OFFERS = 64,
 };
 
 struct search {
@@ -26,14 +31,20 @@ struct calls {
     size_t count;
 };
 
-struct questions {
-    uint64_t *asked, *given;
-    size_t count;
-};
-
 /* What may be sold. */
 struct offer {
     uint64_t line, trip, from, to, departure, arrival;
+};
+
+/* The questions of one portion, and the offers that came of all portions so far. What is refused isn't kept. */
+struct asking {
+    const struct batch *batch;
+    const struct search *search;
+    const struct holidays *holidays;
+    uint64_t *asked, *given;
+    size_t count;
+    struct offer *offers;
+    size_t offer_count, offer_room;
 };
 
 static int compare(uint64_t a, uint64_t b)
@@ -86,63 +97,92 @@ static size_t length_of_trip(const struct calls *calls, size_t start)
     return end - start;
 }
 
-static size_t pairs_of_trip(const struct call *calls, size_t count)
+static int keep_offer(struct asking *a, struct offer offer)
 {
-    size_t i, first = 0, second = 0;
-    for (i = 0; i < count; i++) {
-        first += (size_t)calls[i].at_from;
-        second += (size_t)calls[i].at_to;
+    if (a->offer_count == a->offer_room) {
+        size_t room = a->offer_room == 0 ? FIRST_OFFERS : a->offer_room * 2;
+        struct offer *offers = realloc(a->offers, room * sizeof *offers);
+        if (offers == NULL)
+            return 0;
+        a->offers = offers;
+        a->offer_room = room;
     }
-    return first * second;
+    a->offers[a->offer_count++] = offer;
+    return 1;
 }
 
-static size_t pairs_of_all(const struct calls *calls)
+/* Asks the library what the portion holds, and empties it. The batch's own refusal and that of the day end the search, at the first portion. */
+static enum status ask_library(struct asking *a)
 {
-    size_t start, length, pairs = 0;
-    for (start = 0; start < calls->count; start += length) {
-        length = length_of_trip(calls, start);
-        pairs += pairs_of_trip(calls->list + start, length);
+    const struct date *date = &a->search->date;
+    size_t i;
+    slovdrim_sales_answer answer = slovdrim_sales(EACH_FILE(a->batch), a->batch->order, a->batch->order_count, a->holidays->days, a->holidays->count, a->asked,
+                                                  a->count * ASKED, a->given, a->count * GIVEN);
+    if (of_the_batch(answer.number)) {
+        end_waiting();
+        return refuse_batch(a->batch, REFUSAL_OF(answer));
     }
-    return pairs;
+    if (slovdrim_day(date->day, date->month, date->year).number != SLOVDRIM_ANSWER) {
+        end_waiting();
+        return refuse_day(date);
+    }
+    for (i = 0; i < a->count; i++) {
+        const uint64_t *asked = a->asked + i * ASKED, *given = a->given + i * GIVEN;
+        if (given[0] == SLOVDRIM_ANSWER && !keep_offer(a, (struct offer){asked[0], asked[1], asked[5], asked[6], given[1], given[2]}))
+            return no_memory();
+    }
+    a->count = 0;
+    return ANSWERED;
 }
 
-static void ask(struct questions *q, const struct search *s, const struct call *from, const struct call *to)
+/* A full portion is asked when there is one more question, so that the last one never is empty where there are questions. */
+static enum status ask(struct asking *a, const struct call *from, const struct call *to)
 {
-    uint64_t *asked = q->asked + q->count * ASKED;
+    const struct date *date = &a->search->date;
+    uint64_t *asked;
+    if (a->count == QUESTIONS_AT_ONCE) {
+        enum status status = ask_library(a);
+        if (status != ANSWERED)
+            return status;
+    }
+    asked = a->asked + a->count * ASKED;
     asked[0] = from->line;
     asked[1] = from->trip;
-    asked[2] = s->date.day;
-    asked[3] = s->date.month;
-    asked[4] = s->date.year;
+    asked[2] = date->day;
+    asked[3] = date->month;
+    asked[4] = date->year;
     asked[5] = from->tariff;
     asked[6] = to->tariff;
-    q->count++;
+    a->count++;
+    return ANSWERED;
 }
 
 /* Every pair of one trip's calls, the first at the first stop and the second at the second. Which of them may be sold is the library's to say. */
-static void ask_of_trip(struct questions *q, const struct search *s, const struct call *calls, size_t count)
+static enum status ask_of_trip(struct asking *a, const struct call *calls, size_t count)
 {
+    enum status status = ANSWERED;
     size_t i, j;
     for (i = 0; i < count; i++)
-        for (j = 0; calls[i].at_from && j < count; j++)
+        for (j = 0; calls[i].at_from && j < count && status == ANSWERED; j++)
             if (calls[j].at_to)
-                ask(q, s, &calls[i], &calls[j]);
+                status = ask(a, &calls[i], &calls[j]);
+    return status;
 }
 
-/* The questions, or none where there are too many. */
-static enum status gather(const struct calls *calls, const struct search *s, struct questions *q, size_t pairs)
+/* The library is asked once even where there is no question, since it has to judge the batch. */
+static enum status ask_of_all(struct asking *a, const struct calls *calls)
 {
+    enum status status = ANSWERED;
     size_t start, length;
-    q->count = 0;
-    q->asked = malloc((pairs + 1) * ASKED * sizeof *q->asked);
-    q->given = malloc((pairs + 1) * GIVEN * sizeof *q->given);
-    if (q->asked == NULL || q->given == NULL)
+    a->asked = malloc(QUESTIONS_AT_ONCE * ASKED * sizeof *a->asked);
+    a->given = malloc(QUESTIONS_AT_ONCE * GIVEN * sizeof *a->given);
+    if (a->asked == NULL || a->given == NULL)
         return no_memory();
-    for (start = 0; pairs > 0 && start < calls->count; start += length) {
+    for (start = 0; start < calls->count && status == ANSWERED; start += length) {
         length = length_of_trip(calls, start);
-        ask_of_trip(q, s, calls->list + start, length);
+        status = ask_of_trip(a, calls->list + start, length);
     }
-    return ANSWERED;
+    return status == ANSWERED ? ask_library(a) : status;
 }
 
 static int by_departure(const void *a, const void *b)
@@ -155,19 +195,6 @@ static int by_departure(const void *a, const void *b)
         if (left[i] != right[i])
             return compare(left[i], right[i]);
     return 0;
-}
-
-/* The questions that were answered, in order of departure. */
-static size_t offers_of(const struct questions *q, struct offer *offers)
-{
-    size_t i, count = 0;
-    for (i = 0; i < q->count; i++) {
-        const uint64_t *asked = q->asked + i * ASKED, *given = q->given + i * GIVEN;
-        if (given[0] == SLOVDRIM_ANSWER)
-            offers[count++] = (struct offer){asked[0], asked[1], asked[5], asked[6], given[1], given[2]};
-    }
-    qsort(offers, count, sizeof *offers, by_departure);
-    return count;
 }
 
 static void show_offer(const struct batch *batch, const struct offer *o)
@@ -188,22 +215,19 @@ static void show_search(const struct batch *batch, const struct search *s, const
     putchar('\n');
 }
 
-static enum status show_offers(const struct batch *batch, const struct questions *q)
+/* In order of departure. */
+static void show_offers(struct asking *a)
 {
-    size_t i, count;
-    struct offer *offers = malloc((q->count + 1) * sizeof *offers);
-    if (offers == NULL)
-        return no_memory();
-    count = offers_of(q, offers);
-    if (count == 0)
-        tell(stdout, "No trip may be sold between these stops on this day.\n", "Mezi těmito zastávkami tento den nelze prodat žádný spoj.\n");
-    else
-        tell(stdout, "departs arrives   line  trip  from    to  name of the line; from and to are tariff numbers\n",
-             " odjezd příjezd  linka  spoj     z    do  název linky; z a do jsou tarifní čísla\n");
-    for (i = 0; i < count; i++)
-        show_offer(batch, &offers[i]);
-    free(offers);
-    return ANSWERED;
+    size_t i;
+    if (a->offer_count == 0) {
+        tell(stdout, "No trip may be sold between these stops on this day.\n", "Mezi těmito zastávkami nelze na tento den prodat jízdenku na žádný spoj.\n");
+        return;
+    }
+    tell(stdout, "departs arrives   line  trip  from    to  name of the line; from and to are tariff numbers\n",
+         " odjezd příjezd  linka  spoj     z    do  název linky; z a do jsou tarifní čísla\n");
+    qsort(a->offers, a->offer_count, sizeof *a->offers, by_departure);
+    for (i = 0; i < a->offer_count; i++)
+        show_offer(a->batch, &a->offers[i]);
 }
 
 static int has_stop(const struct batch *batch, uint64_t stop)
@@ -211,49 +235,35 @@ static int has_stop(const struct batch *batch, uint64_t stop)
     if (find(&batch->files[SLOVDRIM_ZASTAVKY], 1, stop, 0, 0).length > 0)
         return 1;
     TELL(stdout, "REFUSED %d\nThe batch has no stop %" PRIu64 ". desk stop finds a stop's number by its name.\n",
-         "REFUSED %d\nDávka nemá zastávku %" PRIu64 ". Číslo zastávky podle názvu najde desk stop.\n", SLOVDRIM_NO_SUCH, stop);
+         "REFUSED %d\nV dávce není zastávka %" PRIu64 ". Číslo zastávky podle názvu najde desk stop.\n", SLOVDRIM_NO_SUCH, stop);
     return 0;
 }
 
-/* The batch is read before it is judged, so that one check is enough; what was read counts only if it is accepted. */
-static enum status answer_trips(const struct batch *batch, const struct search *s, const struct holidays *holidays, const struct questions *q, int too_many)
+static enum status show_answer(struct asking *a)
 {
-    slovdrim_sales_answer a;
-    begin_waiting();
-    a = slovdrim_sales(EACH_FILE(batch), batch->order, batch->order_count, holidays->days, holidays->count, q->asked, q->count * ASKED, q->given,
-                       q->count * GIVEN);
     end_waiting();
-    if (of_the_batch(a.number))
-        return refuse_batch(batch, REFUSAL_OF(a));
-    if (slovdrim_day(s->date.day, s->date.month, s->date.year).number != SLOVDRIM_ANSWER)
-        return refuse_day(&s->date);
-    if (!has_stop(batch, s->from) || !has_stop(batch, s->to))
+    if (!has_stop(a->batch, a->search->from) || !has_stop(a->batch, a->search->to))
         return REFUSED;
-    if (too_many) {
-        COMPLAIN("the trips have more than %d pairs of tariff numbers for these stops", "spoje mají pro tyto zastávky více než %d dvojic tarifních čísel",
-                 MOST_QUESTIONS);
-        return WRONG_USE;
-    }
-    warn_of_year(holidays, &s->date);
-    show_search(batch, s, holidays);
-    return show_offers(batch, q);
+    warn_of_year(a->holidays, &a->search->date);
+    show_search(a->batch, a->search, a->holidays);
+    show_offers(a);
+    return ANSWERED;
 }
 
+/* The batch is read before it is judged, so that a usual search is one check; what was read counts only if it is accepted. */
 static enum status search_batch(const struct batch *batch, const struct search *s, const struct holidays *holidays)
 {
+    struct asking a = {batch, s, holidays, NULL, NULL, 0, NULL, 0, 0};
     struct calls calls = {NULL, 0};
-    struct questions q = {NULL, NULL, 0};
     enum status status = read_calls(&batch->files[SLOVDRIM_ZASSPOJE], s, &calls);
-    if (status == ANSWERED) {
-        size_t pairs = pairs_of_all(&calls);
-        int too_many = pairs > MOST_QUESTIONS;
-        status = gather(&calls, s, &q, too_many ? 0 : pairs);
-        if (status == ANSWERED)
-            status = answer_trips(batch, s, holidays, &q, too_many);
-    }
+    if (status == ANSWERED)
+        status = ask_of_all(&a, &calls);
+    if (status == ANSWERED)
+        status = show_answer(&a);
     free(calls.list);
-    free(q.asked);
-    free(q.given);
+    free(a.asked);
+    free(a.given);
+    free(a.offers);
     return status;
 }
 

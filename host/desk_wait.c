@@ -1,4 +1,5 @@
-/* A large batch takes the library seconds. From the first on, a terminal shows that something is done: a dot for each second, on standard error. */
+/* A large batch takes seconds, to be read and to be checked. From the first on, a terminal shows that something is done: a dot for each second, on standard
+   error. */
 #define _POSIX_C_SOURCE 200809L
 #include "desk.h"
 
@@ -7,17 +8,17 @@
 #include <string.h>
 #include <unistd.h>
 
-static volatile sig_atomic_t seconds;
+static volatile sig_atomic_t shown;
 static const char *first_words;
 
-/* A second is over. The library keeps no state, so it may be interrupted anywhere. */
+/* A second is over. The library keeps no state, so it may be interrupted anywhere; a read goes on. */
 static void each_second(int signal_number)
 {
     int error = errno;
-    const char *words = seconds == 0 ? first_words : ".";
+    const char *words = !shown ? first_words : ".";
     (void)signal_number;
     if (write(STDERR_FILENO, words, strlen(words)) >= 0)
-        seconds = 1;
+        shown = 1;
     alarm(1);
     errno = error;
 }
@@ -27,8 +28,8 @@ void begin_waiting(void)
     struct sigaction action;
     if (!isatty(STDERR_FILENO))
         return;
-    seconds = 0;
-    first_words = either("desk: checking the batch .", "desk: kontroluje se dávka .");
+    shown = 0;
+    first_words = either("desk: reading and checking the batch .", "desk: čte se a kontroluje dávka .");
     memset(&action, 0, sizeof action);
     action.sa_handler = each_second;
     action.sa_flags = SA_RESTART;
@@ -36,10 +37,11 @@ void begin_waiting(void)
     alarm(1);
 }
 
+/* Ends the line of dots, if there is one. Whatever is written comes after this. */
 void end_waiting(void)
 {
     alarm(0);
-    if (seconds != 0)
+    if (shown)
         fputc('\n', stderr);
-    seconds = 0;
+    shown = 0;
 }

@@ -32,6 +32,7 @@ void tell(FILE *to, const char *english, const char *czech)
 
 enum status no_memory(void)
 {
+    end_waiting();
     tell(stderr, "desk: not enough memory\n", "desk: nedostatek paměti\n");
     return WRONG_USE;
 }
@@ -58,15 +59,16 @@ void show_help(FILE *to)
          "LIST is --holidays FILE or --no-holidays. The file has a date on each line, or a day number; # begins a comment.\n"
          "DATE is written as 10.6.2001 or 2001-06-10. After -- nothing is an option.\n"
          "Exit status: 0 answered, 1 refused, 2 wrong use or a file that can't be read.\n",
-         "desk: dotazy na dávku jízdních řádů v JDF 1.8, třináct souborů VerzeJDF.txt, Zastavky.txt .. v adresáři DIR\n"
+         "desk: dotazy na dávku jízdních řádů ve formátu JDF 1.8, třináct souborů VerzeJDF.txt, Zastavky.txt atd. v adresáři DIR\n"
          "\n"
-         "  desk check DIR                             je dávka přijata, a když ne, proč\n"
-         "  desk sale DIR LINE TRIP DATE FROM TO LIST  lze prodat jízdenku; linka, spoj, datum, tarifní čísla odkud a kam\n"
-         "  desk trips DIR FROM TO DATE LIST           všechny spoje, na které lze prodat; čísla zastávek odkud a kam, datum\n"
-         "  desk stops DIR LINE TRIP                   zastávky spoje ve směru jízdy; linka, spoj\n"
+         "  desk check DIR                             zda je dávka přijata, a pokud ne, proč\n"
+         "  desk sale DIR LINE TRIP DATE FROM TO LIST  zda lze prodat jízdenku; linka, spoj, datum, tarifní čísla odkud a kam\n"
+         "  desk trips DIR FROM TO DATE LIST           všechny spoje, na které ji lze prodat; čísla zastávek odkud a kam, datum\n"
+         "  desk stops DIR LINE TRIP                   zastávky spoje v pořadí jízdy; linka, spoj\n"
          "  desk stop DIR TOWN [PART [PLACE]]          číslo zastávky podle celého názvu; obec, část obce, bližší místo\n"
          "\n"
-         "LIST je --holidays SOUBOR (seznam svátků) nebo --no-holidays (bez svátků). Soubor má na řádku datum nebo číslo dne; # začíná poznámku.\n"
-         "DATE se píše 10.6.2001 nebo 2001-06-10. Po -- už nic není přepínač.\n"
+         "LIST je --holidays FILE (soubor se seznamem svátků) nebo --no-holidays (bez svátků). Na každém řádku souboru je datum nebo číslo dne; znakem #\n"
+         "začíná poznámka.\n"
+         "DATE se píše jako 10.6.2001 nebo 2001-06-10. Za -- už nic není přepínač.\n"
          "Návratový kód: 0 zodpovězeno, 1 odmítnuto, 2 chybné použití nebo soubor, který nelze přečíst.\n");
 }

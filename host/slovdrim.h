@@ -1,9 +1,10 @@
 /*
  * slovdrim.h: the C interface of Slovdrim, a proved library for Czech bus timetables in the JDF 1.8 format.
  *
- * This version reads and writes the bytes of one file of a batch, checks its fields, checks a whole batch, says on which days a trip of it runs and
- * where and when it calls, whether a ticket may be sold, which stop has a name, and counts days. Each call answers exactly what its comment says, for
- * every input, or comes back with one numbered refusal; nothing is guessed and nothing is repaired.
+ * This version reads and writes the bytes of one file of a batch, checks its fields, checks a whole batch, makes the list that a batch in any order is
+ * checked with at speed, says on which days a trip runs and where and when it calls, whether a ticket may be sold, which stop has a name, and counts
+ * days. Each call answers exactly what its comment says, for every input, or comes back with one numbered refusal; nothing is guessed and nothing is
+ * repaired.
  *
  * For all calls:
  *
@@ -84,7 +85,7 @@ extern "C" {
 #define SLOVDRIM_NOT_CARRIED 19     /* both stops have the sign 0xA7; no place */
 #define SLOVDRIM_NO_SUCH 20         /* no such file, record, field or stop; no place */
 #define SLOVDRIM_TEXT_NOT_PERMITTED 21 /* the text can't stand in a field; no place */
-#define SLOVDRIM_NO_ROOM 22         /* the field doesn't fit into the buffer from the place on, or the answers into the list; no place */
+#define SLOVDRIM_NO_ROOM 22         /* the field doesn't fit into the buffer from the place on, or the answers or offsets into the list; no place */
 #define SLOVDRIM_NO_SUCH_NAME 23    /* no stop has this name; no place */
 #define SLOVDRIM_SEVERAL_NAMED 24   /* several stops have this name; no place, but how many they are */
 
@@ -283,8 +284,8 @@ typedef struct {
  * their order, at one field LINK_TO_NOTHING before SIGN_NOT_PERMITTED; then the trips in the order of Spoje, in each DAYS_WRONG before STOPS_WRONG.
  *
  * The time is n log n in the batch if the keys of each of the files 2 to 10 strictly rise from record to record. A file whose keys don't is searched
- * from its beginning for each link to it and for each record of its own; slovdrim_check_hinted is for such batches, and with a right list its
- * time is n log n too.
+ * from its beginning for each link to it and for each record of its own; slovdrim_check_hinted is for such batches, and with the list that slovdrim_order
+ * makes its time is n log n too.
  */
 slovdrim_check_answer slovdrim_check(const uint8_t *verzejdf, size_t verzejdf_length, const uint8_t *zastavky, size_t zastavky_length,
                                      const uint8_t *pevnykod, size_t pevnykod_length, const uint8_t *dopravci, size_t dopravci_length,
@@ -296,10 +297,7 @@ slovdrim_check_answer slovdrim_check(const uint8_t *verzejdf, size_t verzejdf_le
 
 /*
  * The same answer as slovdrim_check, for every list `order` of `count` numbers, whatever they are: they can make the call faster, and nothing else.
- *
- * They do if they are these. For each of the files 2 to 10, in this order, whose keys do not strictly rise from record to record (compared by value,
- * the first field of the key before the second): the offset in the file at which each of its records begins, all records, in rising order of key and,
- * where keys are equal, of place. One file's offsets follow the other's; there are none for a file whose keys rise.
+ * They do if they are the ones that slovdrim_order writes for the batch, as many as it says in `written`.
  */
 slovdrim_check_answer slovdrim_check_hinted(const uint8_t *verzejdf, size_t verzejdf_length, const uint8_t *zastavky, size_t zastavky_length,
                                             const uint8_t *pevnykod, size_t pevnykod_length, const uint8_t *dopravci, size_t dopravci_length,
@@ -308,6 +306,41 @@ slovdrim_check_answer slovdrim_check_hinted(const uint8_t *verzejdf, size_t verz
                                             const uint8_t *udaje, size_t udaje_length, const uint8_t *caskody, size_t caskody_length,
                                             const uint8_t *altdop, size_t altdop_length, const uint8_t *altlinky, size_t altlinky_length,
                                             const uint8_t *mistenky, size_t mistenky_length, const uint32_t *order, size_t count);
+
+typedef struct {
+    uint64_t number;
+    uint64_t file;
+    uint64_t record;
+    uint64_t field;
+    uint64_t offset;
+    uint64_t written;
+} slovdrim_order_answer;
+
+/*
+ * Makes the list that the calls with `order` look for, into `list`, which has room for `list_count` numbers.
+ *
+ * It has a part for each of the files 2 to 10, in this order, whose keys do not strictly rise from record to record: the offset in the file at which each
+ * of its records begins, all records, by rising key, and those of one key by rising offset. Keys are compared by value, the first field of the key before
+ * the second, and that before the third. There is no part for a file whose keys rise, so that the list of a batch in the order of its keys is empty.
+ *
+ *   SLOVDRIM_ANSWER          `written` is how many numbers were written, from the start of `list` on; the rest of `list` is as it was. It may be 0.
+ *   the batch's own refusal  SLOVDRIM_TOO_LONG to SLOVDRIM_RULE_BROKEN, 1 to 6, number and place as slovdrim_check gives them. Keys, links, signs and trips
+ *                            are not tried: a key may be there twice.
+ *   SLOVDRIM_NO_ROOM         `list_count` is less than the numbers of the list. No place.
+ *
+ * The first that applies, in this order. With every refusal no byte of `list` changes and `written` is 0.
+ *
+ * There is always room if `list_count` is the number of records of the files 2 to 10 together. slovdrim_records counts them; without a look at the bytes,
+ * the lengths of the nine files together divided by 11 are enough, since a record has at least 11 bytes. The time is n log n in the batch, in whatever
+ * order it stands, and no memory is needed but the list.
+ */
+slovdrim_order_answer slovdrim_order(const uint8_t *verzejdf, size_t verzejdf_length, const uint8_t *zastavky, size_t zastavky_length,
+                                     const uint8_t *pevnykod, size_t pevnykod_length, const uint8_t *dopravci, size_t dopravci_length,
+                                     const uint8_t *linky, size_t linky_length, const uint8_t *spoje, size_t spoje_length,
+                                     const uint8_t *zaslinky, size_t zaslinky_length, const uint8_t *zasspoje, size_t zasspoje_length,
+                                     const uint8_t *udaje, size_t udaje_length, const uint8_t *caskody, size_t caskody_length,
+                                     const uint8_t *altdop, size_t altdop_length, const uint8_t *altlinky, size_t altlinky_length,
+                                     const uint8_t *mistenky, size_t mistenky_length, uint32_t *list, size_t list_count);
 
 /*
  * Questions about the trips of a batch. Each checks the batch first, and a batch that doesn't stand answers with its own refusal, number and place, as
@@ -518,7 +551,7 @@ slovdrim_stop_answer slovdrim_stop_hinted(const uint8_t *verzejdf, size_t verzej
 /*
  * The version of this interface: SLOVDRIM_VERSION of the header that the library was made with. It never refuses.
  */
-#define SLOVDRIM_VERSION 3
+#define SLOVDRIM_VERSION 4
 uint64_t slovdrim_version(void);
 
 /*
@@ -608,6 +641,7 @@ SLOVDRIM_LAYOUT(sizeof(slovdrim_stretch_answer) == 56 && offsetof(slovdrim_stret
 SLOVDRIM_LAYOUT(sizeof(slovdrim_write_answer) == 16 && offsetof(slovdrim_write_answer, place) == 8, "layout of slovdrim_write_answer");
 SLOVDRIM_LAYOUT(sizeof(slovdrim_fields_answer) == 40 && offsetof(slovdrim_fields_answer, offset) == 32, "layout of slovdrim_fields_answer");
 SLOVDRIM_LAYOUT(sizeof(slovdrim_check_answer) == 72 && offsetof(slovdrim_check_answer, trip_stops) == 64, "layout of slovdrim_check_answer");
+SLOVDRIM_LAYOUT(sizeof(slovdrim_order_answer) == 48 && offsetof(slovdrim_order_answer, written) == 40, "layout of slovdrim_order_answer");
 SLOVDRIM_LAYOUT(sizeof(slovdrim_runs_answer) == 48 && offsetof(slovdrim_runs_answer, runs) == 40, "layout of slovdrim_runs_answer");
 SLOVDRIM_LAYOUT(sizeof(slovdrim_trip_stop_answer) == 112 && offsetof(slovdrim_trip_stop_answer, stops) == 104, "layout of slovdrim_trip_stop_answer");
 SLOVDRIM_LAYOUT(sizeof(slovdrim_sale_answer) == 56 && offsetof(slovdrim_sale_answer, arrival) == 48, "layout of slovdrim_sale_answer");

@@ -79,14 +79,21 @@ def backwards():
             file.write(b"".join(reversed(lines)))
 
 
-# A trip that calls 1001 times at each of two stops, so that there are more pairs than the host asks about.
+# An even trip that calls 130 times at each of two stops, so that there are more pairs than the host asks about at once, and what may be sold is asked in more than
+# one portion. Nobody may board or alight at most of them. It travels by falling tariff number: what departs first is asked last.
 def crowded():
     copy("crowded")
-    calls = [str(1 if i < 1001 else 2) for i in range(2002)]
+    stop = lambda tariff: "1" if tariff > 130 else "2"
+    sign = {"1": "1", "2": "2"}
+    open_calls = (260, 200, 131, 130, 100, 1)
+    minute = lambda tariff: 360 + 260 - tariff
+    time = lambda tariff: f"{minute(tariff) // 60:02}{minute(tariff) % 60:02}"
     write("crowded", "Zastavky", [[number, "Telč", "", number, "JH", "CZ"] + [""] * 6 for number in ("1", "2")])
-    write("crowded", "Spoje", [["790123", "1"] + [""] * 10])
-    write("crowded", "Zaslinky", [["790123", str(i + 1), "", stop, "", "", ""] for i, stop in enumerate(calls)])
-    write("crowded", "Zasspoje", [["790123", "1", str(i + 1), stop, "", "", "", "0", "0700" if i > 0 else "", "0700"] for i, stop in enumerate(calls)])
+    write("crowded", "Pevnykod", [["1", "(", ""], ["2", ")", ""]])
+    write("crowded", "Spoje", [["790123", "2"] + [""] * 10])
+    write("crowded", "Zaslinky", [["790123", str(tariff), "", stop(tariff), "" if tariff in open_calls else sign[stop(tariff)], "", ""] for tariff in range(1, 261)])
+    write("crowded", "Zasspoje", [["790123", "2", str(tariff), stop(tariff), "", "", "", "0", time(tariff) if tariff == 1 else "", "" if tariff == 1 else time(tariff)]
+                                  for tariff in range(1, 261)])
     for name in ("Caskody", "Altdop", "Mistenky"):
         write("crowded", name, [])
 
@@ -125,6 +132,20 @@ def damaged():
     copy("folder-for-file")
     os.remove("folder-for-file/Linky.txt")
     os.mkdir("folder-for-file/Linky.txt")
+    copy("link-to-itself")
+    os.remove("link-to-itself/Linky.txt")
+    os.symlink("Linky.txt", "link-to-itself/Linky.txt")
+    copy("link-to-nothing")
+    os.remove("link-to-nothing/Linky.txt")
+    os.symlink("nothing.txt", "link-to-nothing/Linky.txt")
+    copy("no-permission")
+    os.chmod("no-permission/Linky.txt", 0)
+    copy("closed")
+    copy("closed/inner")
+    os.chmod("closed", 0)
+    copy("half-a-line-end")
+    with open("half-a-line-end/VerzeJDF.txt", "wb") as file:
+        file.write(b'"1.8";\r')
     copy("some-missing")
     for name in ("Udaje", "Altlinky", "Mistenky"):
         os.remove(f"some-missing/{name}.txt")

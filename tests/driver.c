@@ -105,24 +105,24 @@ void give_answers(uint64_t answers[PLACINGS][WORDS], int count, size_t words)
 
 /* Rooms */
 
-struct room room_of(int writable)
+void open_lent(struct lent *l, int writable)
 {
-    struct room r;
-    int fd = memfd_create("room", 0);
-    uint8_t *base = mmap(NULL, ROOM + 2 * PAGE, PROT_NONE, MAP_PRIVATE | MAP_ANONYMOUS | MAP_NORESERVE, -1, 0);
-    if (fd < 0 || ftruncate(fd, ROOM) != 0 || base == MAP_FAILED)
-        give_up("no memory for a room");
-    r.lent = mmap(base + PAGE, ROOM, writable ? PROT_READ | PROT_WRITE : PROT_READ, MAP_SHARED | MAP_FIXED, fd, 0);
-    r.own = mmap(NULL, ROOM, PROT_READ | PROT_WRITE, MAP_SHARED, fd, 0);
-    if (r.lent == MAP_FAILED || r.own == MAP_FAILED)
-        give_up("no memory for a room");
-    close(fd);
-    return r;
+    int i;
+    for (i = AT_END; i <= AT_START; i++) {
+        l->rooms[i] = room_of(ROOM, writable);
+        l->near[i] = room_of(PAGE, writable);
+    }
 }
 
-size_t placed(enum placing where, size_t length)
+static const struct room *room_for(const struct lent *l, enum placing where)
 {
-    return where == AT_END ? ROOM - length : 0;
+    return l->length <= PAGE ? &l->near[where] : &l->rooms[where];
+}
+
+static uint8_t *own_at(const struct lent *l, enum placing where)
+{
+    const struct room *room = room_for(l, where);
+    return room->own + placed(room, where, l->length);
 }
 
 void lend(struct lent *l, size_t length)
@@ -130,18 +130,112 @@ void lend(struct lent *l, size_t length)
     if (length > ROOM)
         give_up("more bytes than a room holds");
     l->length = length;
-    take_bytes(l->rooms[AT_END].own + placed(AT_END, length), length);
-    memcpy(l->rooms[AT_START].own, l->rooms[AT_END].own + placed(AT_END, length), length);
+    take_bytes(own_at(l, AT_END), length);
+    memcpy(own_at(l, AT_START), own_at(l, AT_END), length);
 }
 
 const uint8_t *lent_at(const struct lent *l, enum placing where)
 {
-    return where == NOWHERE ? NULL : l->rooms[where].lent + placed(where, l->length);
+    const struct room *room;
+    if (where == NOWHERE)
+        return NULL;
+    room = room_for(l, where);
+    return room->lent + placed(room, where, l->length);
 }
 
 int placings(const struct lent *l)
 {
     return l->length == 0 ? PLACINGS : PLACINGS - 1;
+}
+
+/* What is written to has marks beside it, on the side that isn't forbidden. */
+
+enum { BESIDE = 64 };
+
+static uint8_t mark_of(const struct lent *l)
+{
+    return (uint8_t)(0x5a ^ l->length * 37);
+}
+
+/* The bytes beside it that are marked. */
+static uint8_t *beside(const struct lent *l, enum placing where, size_t *count)
+{
+    const struct room *room = room_for(l, where);
+    size_t left = room->size - l->length;
+    *count = left < BESIDE ? left : BESIDE;
+    return where == AT_END ? own_at(l, where) - *count : own_at(l, where) + l->length;
+}
+
+static enum placing stands_at(enum placing where)
+{
+    return where == AT_START ? AT_START : AT_END;
+}
+
+uint8_t *lend_to_write(struct lent *l, enum placing where, const uint8_t *bytes, size_t length)
+{
+    const struct room *room;
+    size_t count;
+    uint8_t *marked;
+    if (length > ROOM)
+        give_up("more bytes than a room holds");
+    l->length = length;
+    room = room_for(l, stands_at(where));
+    memcpy(own_at(l, stands_at(where)), bytes, length);
+    marked = beside(l, stands_at(where), &count);
+    memset(marked, mark_of(l), count);
+    return where == NOWHERE && length == 0 ? NULL : room->lent + placed(room, stands_at(where), length);
+}
+
+const uint8_t *left_at(const struct lent *l, enum placing where)
+{
+    return own_at(l, stands_at(where));
+}
+
+int beside_changed(const struct lent *l, enum placing where)
+{
+    size_t i, count;
+    const uint8_t *marked = beside(l, stands_at(where), &count);
+    for (i = 0; i < count; i++)
+        if (marked[i] != mark_of(l))
+            return 1;
+    return 0;
+}
+
+/* Lengths that no room holds: the bytes stand between two pages, against the one behind them. */
+
+static size_t whole_pages(size_t length)
+{
+    return (length + PAGE - 1) / PAGE * PAGE;
+}
+
+const uint8_t *lend_huge(size_t length, int readable)
+{
+    size_t pages = whole_pages(length);
+    uint8_t *base = mmap(NULL, pages + 2 * PAGE, PROT_NONE, MAP_PRIVATE | MAP_ANONYMOUS | MAP_NORESERVE, -1, 0);
+    if (base == MAP_FAILED || (readable && mprotect(base + PAGE, pages, PROT_READ) != 0))
+        give_up("no addresses for a huge file");
+    return base + PAGE + (pages - length);
+}
+
+void take_back_huge(const uint8_t *bytes, size_t length)
+{
+    size_t pages = whole_pages(length);
+    munmap((void *)(uintptr_t)(bytes - (pages - length) - PAGE), pages + 2 * PAGE);
+}
+
+/* Placings by turns. */
+
+enum { FEW_BYTES = 4096 };
+
+struct turns turns_of(int count, size_t bytes)
+{
+    static unsigned turn;
+    struct turns t = {0, count};
+    if (bytes > FEW_BYTES) {
+        t.from = (int)(turn++ % (unsigned)count);
+        t.to = t.from + 1;
+    }
+    return t;
 }
 
 /* What is said after a crash. It is set before each call, so that the words fit the call under way. */
@@ -167,7 +261,7 @@ void about_to(const char *call, uint64_t a, uint64_t b, uint64_t c, int where, c
 
 static int on_a_batch(const char *call)
 {
-    static const char *const calls[] = {"slovdrim_check", "slovdrim_runs", "slovdrim_trip_stop", "slovdrim_sale", "slovdrim_stop"};
+    static const char *const calls[] = {"slovdrim_check", "slovdrim_order", "slovdrim_runs", "slovdrim_trip_stop", "slovdrim_sale", "slovdrim_stop"};
     size_t i;
     for (i = 0; i < sizeof calls / sizeof *calls; i++)
         if (strncmp(call, calls[i], strlen(calls[i])) == 0)
@@ -209,8 +303,7 @@ static void catch_crashes(void)
 /* Calls on the lent file */
 
 struct lent file_bytes;
-static struct lent text_bytes;
-static struct room buffers[2];
+static struct lent text_bytes, buffer;
 
 static void records_request(void)
 {
@@ -243,127 +336,118 @@ static void stretches_request(void)
     }
 }
 
-/* A length that no room holds: the bytes are there, all zero, and nothing has to be read to refuse them. */
+/* A length that no room holds, all bytes zero: such a file is refused without reading one. */
 static void huge_request(void)
 {
     uint64_t file = take_word(), length = take_word(), answers[PLACINGS][WORDS];
-    uint8_t *bytes = mmap(NULL, length, PROT_READ, MAP_PRIVATE | MAP_ANONYMOUS | MAP_NORESERVE, -1, 0);
+    const uint8_t *bytes = lend_huge(length, 0);
     slovdrim_records_answer a;
     slovdrim_stretch_answer b;
-    if (bytes == MAP_FAILED)
-        give_up("no addresses for a huge file");
-    about_to("slovdrim_records", file, 0, 0, 0, bytes, length);
+    about_to("slovdrim_records", file, length, 0, 0, bytes, 0);
     a = slovdrim_records(file, bytes, length);
     memcpy(answers[0], &a, sizeof a);
     give_answers(answers, 1, sizeof a / 8);
-    about_to("slovdrim_stretch", file, 1, 1, 0, bytes, length);
+    about_to("slovdrim_stretch", file, length, 1, 0, bytes, 0);
     b = slovdrim_stretch(file, bytes, length, 1, 1);
     memcpy(answers[0], &b, sizeof b);
     give_answers(answers, 1, sizeof b / 8);
-    munmap(bytes, length);
+    take_back_huge(bytes, length);
 }
 
 /* The writer */
 
-enum { BESIDE = 64 };
+static uint8_t given[1 << 20], held[1 << 20];
 
-void set_beside(uint8_t *own, size_t at, size_t length, uint8_t value)
+static void take_given(size_t length)
 {
-    size_t before = at < BESIDE ? at : BESIDE, after = ROOM - (at + length) < BESIDE ? ROOM - (at + length) : BESIDE;
-    memset(own + at - before, value, before);
-    memset(own + at + length, value, after);
+    if (length > sizeof given)
+        give_up("more buffer than the driver keeps");
+    take_bytes(given, length);
 }
 
-int beside_changed(const uint8_t *own, size_t at, size_t length, uint8_t value)
-{
-    size_t i, before = at < BESIDE ? at : BESIDE, after = ROOM - (at + length) < BESIDE ? ROOM - (at + length) : BESIDE;
-    for (i = 0; i < before; i++)
-        if (own[at - before + i] != value)
-            return 1;
-    for (i = 0; i < after; i++)
-        if (own[at + length + i] != value)
-            return 1;
-    return 0;
-}
+/* Text and buffer both at their ends, both at their starts, and NULL for the one, the other and both, where they are empty. */
+static const enum placing text_places[] = {AT_END, AT_START, NOWHERE, AT_END, NOWHERE}, buffer_places[] = {AT_END, AT_START, AT_END, NOWHERE, NOWHERE};
+enum { WRITE_PLACINGS = sizeof text_places / sizeof *text_places };
 
 static void write_request(void)
 {
-    static uint8_t given[1 << 20];
-    uint64_t file = take_word(), field = take_word(), place = take_word(), text_length = take_word(), buffer_length, differs = 0;
+    uint64_t file = take_word(), field = take_word(), place = take_word(), text_length = take_word(), differs = 0;
     uint64_t words[2] = {0, 0};
-    uint8_t *held = NULL;
+    size_t length;
     int i;
     lend(&text_bytes, text_length);
-    buffer_length = take_word();
-    if (buffer_length > sizeof given)
-        give_up("more buffer than the driver keeps");
-    take_bytes(given, buffer_length);
-    /* Both at their ends, both at their starts, and NULL for whichever is empty. */
-    for (i = 0; i < 4; i++) {
-        enum placing text_where = i == 2 ? NOWHERE : i == 1 ? AT_START : AT_END, where = i == 1 ? AT_START : AT_END;
-        struct room *room = &buffers[where];
-        size_t at = placed(where, buffer_length);
-        uint8_t *buffer = i == 3 ? NULL : room->lent + at;
-        uint8_t mark = (uint8_t)(0x5a ^ (place * 37 + text_length));
+    length = take_word();
+    take_given(length);
+    for (i = 0; i < WRITE_PLACINGS; i++) {
+        const uint8_t *text = lent_at(&text_bytes, text_places[i]);
+        uint8_t *to;
         slovdrim_write_answer a;
-        if ((i == 2 && text_length != 0) || (i == 3 && buffer_length != 0))
+        if ((text_places[i] == NOWHERE && text_length != 0) || (buffer_places[i] == NOWHERE && length != 0))
             continue;
-        memcpy(room->own + at, given, buffer_length);
-        set_beside(room->own, at, buffer_length, mark);
-        about_to("slovdrim_write", file, field, place, text_where, lent_at(&text_bytes, text_where), text_length);
-        a = slovdrim_write(file, field, lent_at(&text_bytes, text_where), text_length, buffer, buffer_length, place);
+        to = lend_to_write(&buffer, buffer_places[i], given, length);
+        about_to("slovdrim_write", file, field, place, text_places[i], text, text_length);
+        a = slovdrim_write(file, field, text, text_length, to, length, place);
         if (i == 0) {
             words[0] = a.number;
             words[1] = a.place;
-            held = room->own + at;
-        } else if (a.number != words[0] || a.place != words[1] || memcmp(held, room->own + at, buffer_length) != 0) {
+            memcpy(held, left_at(&buffer, AT_END), length);
+        } else if (a.number != words[0] || a.place != words[1] || memcmp(held, left_at(&buffer, buffer_places[i]), length) != 0) {
             differs = (uint64_t)i;
         }
-        if (beside_changed(room->own, at, buffer_length, mark))
+        if (beside_changed(&buffer, buffer_places[i]))
             differs = 100 + (uint64_t)i;
-        if (i == 0) /* what the first call left stays in its room's other half while the later ones run */
-            held = memmove(room->own + PAGE, held, buffer_length);
     }
     give_words(words, 2);
     give_words(&differs, 1);
-    give_bytes(held, buffer_length);
+    give_bytes(held, length);
 }
 
-/* Reads the lent file and writes it again field by field, from `place` on in the buffer that the request brings, each call at the place that
-   the last one answered. Gives the first number that isn't 0, the place at the end, and the buffer. */
+/* Reads the lent file and writes it again field by field, from `place` on in the buffer that the request brings, each call at the place that the last one
+   answered; file and buffer at their ends or at their starts, by turns. Gives the first number that isn't 0, the place at the end, and the buffer. */
+
+enum { STRETCH_OUTSIDE = 99, BYTES_BESIDE = 98 };
+
+/* One field; the number that it was answered with. */
+static uint64_t rewrite_field(uint64_t file, uint64_t record, uint64_t field, enum placing where, uint8_t *to, uint64_t *place)
+{
+    const uint8_t *bytes = lent_at(&file_bytes, where);
+    slovdrim_stretch_answer s;
+    slovdrim_write_answer w;
+    about_to("slovdrim_stretch", file, record, field, where, bytes, file_bytes.length);
+    s = slovdrim_stretch(file, bytes, file_bytes.length, record, field);
+    if (s.number != 0)
+        return s.number;
+    if (s.start > file_bytes.length || s.length > file_bytes.length - s.start)
+        return STRETCH_OUTSIDE;
+    about_to("slovdrim_write", file, field, *place, where, bytes + s.start, s.length);
+    w = slovdrim_write(file, field, bytes + s.start, s.length, to, buffer.length, *place);
+    *place = w.place;
+    return w.number;
+}
+
 static void rewrite_request(void)
 {
-    uint64_t file = take_word(), fields = take_word(), words[2] = {0, 0}, record, field;
-    size_t length;
-    uint8_t *buffer;
-    const uint8_t *bytes = lent_at(&file_bytes, AT_END);
+    static unsigned turn;
+    uint64_t file = take_word(), fields = take_word(), words[2], record, field;
+    enum placing where = turn++ % 2 == 0 ? AT_END : AT_START;
+    const uint8_t *bytes = lent_at(&file_bytes, where);
     slovdrim_records_answer counted;
+    size_t length;
+    uint8_t *to;
     words[1] = take_word();
     length = take_word();
-    if (length > ROOM)
-        give_up("more buffer than a room holds");
-    take_bytes(buffers[AT_END].own + placed(AT_END, length), length);
-    buffer = buffers[AT_END].lent + placed(AT_END, length);
-    about_to("slovdrim_records", file, 0, 0, AT_END, bytes, file_bytes.length);
+    take_given(length);
+    to = lend_to_write(&buffer, where, given, length);
+    about_to("slovdrim_records", file, 0, 0, where, bytes, file_bytes.length);
     counted = slovdrim_records(file, bytes, file_bytes.length);
     words[0] = counted.number;
     for (record = 1; words[0] == 0 && record <= counted.records; record++)
-        for (field = 1; words[0] == 0 && field <= fields; field++) {
-            slovdrim_stretch_answer s;
-            slovdrim_write_answer w;
-            about_to("slovdrim_stretch", file, record, field, AT_END, bytes, file_bytes.length);
-            s = slovdrim_stretch(file, bytes, file_bytes.length, record, field);
-            if (s.number != 0 || s.start > file_bytes.length || s.length > file_bytes.length - s.start) {
-                words[0] = s.number != 0 ? s.number : 99;
-                break;
-            }
-            about_to("slovdrim_write", file, field, words[1], AT_END, bytes + s.start, s.length);
-            w = slovdrim_write(file, field, bytes + s.start, s.length, buffer, length, words[1]);
-            words[0] = w.number;
-            words[1] = w.place;
-        }
+        for (field = 1; words[0] == 0 && field <= fields; field++)
+            words[0] = rewrite_field(file, record, field, where, to, &words[1]);
+    if (beside_changed(&buffer, where))
+        words[0] = BYTES_BESIDE;
     give_words(words, 2);
-    give_bytes(buffers[AT_END].own + placed(AT_END, length), length);
+    give_bytes(left_at(&buffer, where), length);
 }
 
 /* Sweeps: all strings that begin with a given one and are, but for their last byte, beginnings of a legal file. There are hundreds of millions, so
@@ -388,39 +472,47 @@ static void digest(const void *answer, size_t words)
     sweep.digest = h;
 }
 
-static void swept_stretch(const uint8_t *bytes, size_t length, uint64_t record, uint64_t field)
+static void swept_stretch(const uint8_t *bytes, size_t length, uint64_t record, uint64_t field, enum placing where)
 {
     slovdrim_stretch_answer a;
-    about_to("slovdrim_stretch", sweep.file, record, field, AT_END, bytes, length);
+    about_to("slovdrim_stretch", sweep.file, record, field, where, bytes, length);
     a = slovdrim_stretch(sweep.file, bytes, length, record, field);
     digest(&a, sizeof a / 8);
     sweep.stretch_hits[a.number < NUMBERS ? a.number : NUMBERS - 1]++;
 }
 
-/* The first `length` bytes of the text are a beginning: tries each next byte, then goes on from those that are beginnings too. */
+/* All that is asked of one string. Whether it is a beginning of a legal file. */
+static int swept_string(const uint8_t *bytes, size_t length, enum placing where)
+{
+    slovdrim_records_answer a;
+    uint64_t record, field, last;
+    about_to("slovdrim_records", sweep.file, 0, 0, where, bytes, length);
+    a = slovdrim_records(sweep.file, bytes, length);
+    digest(&a, sizeof a / 8);
+    sweep.records_hits[a.number < NUMBERS ? a.number : NUMBERS - 1]++;
+    last = a.records < LONGEST_SWEPT ? a.records : LONGEST_SWEPT;
+    for (record = 0; a.number == 0 && record <= last + 1; record++)
+        for (field = 0; field <= sweep.fields + 1; field++)
+            swept_stretch(bytes, length, record, field, where);
+    if (a.number != 0 && length <= sweep.stretches_to)
+        swept_stretch(bytes, length, 1, 1, where);
+    return a.number == 0 || a.number == 3;
+}
+
+/* The first `length` bytes of the text are a beginning: tries each next byte, at the end of a room and at the start of one by turns, then goes on from those that
+   are beginnings too. */
 static void sweep_from(size_t length)
 {
+    static unsigned turn;
     uint8_t goes_on[256];
-    uint8_t *own = file_bytes.rooms[AT_END].own + ROOM - (length + 1);
-    const uint8_t *bytes = file_bytes.rooms[AT_END].lent + ROOM - (length + 1);
     size_t i;
-    memcpy(own, sweep.text, length);
+    file_bytes.length = length + 1;
     for (i = 0; i < sweep.letters; i++) {
-        slovdrim_records_answer a;
+        enum placing where = turn++ % 2 == 0 ? AT_END : AT_START;
+        uint8_t *own = own_at(&file_bytes, where);
+        memcpy(own, sweep.text, length);
         own[length] = sweep.alphabet[i];
-        about_to("slovdrim_records", sweep.file, 0, 0, AT_END, bytes, length + 1);
-        a = slovdrim_records(sweep.file, bytes, length + 1);
-        digest(&a, sizeof a / 8);
-        sweep.records_hits[a.number < NUMBERS ? a.number : NUMBERS - 1]++;
-        goes_on[i] = a.number == 0 || a.number == 3;
-        if (a.number == 0) {
-            uint64_t record, field, last = a.records < LONGEST_SWEPT ? a.records : LONGEST_SWEPT;
-            for (record = 0; record <= last + 1; record++)
-                for (field = 0; field <= sweep.fields + 1; field++)
-                    swept_stretch(bytes, length + 1, record, field);
-        } else if (length + 1 <= sweep.stretches_to) {
-            swept_stretch(bytes, length + 1, 1, 1);
-        }
+        goes_on[i] = (uint8_t)swept_string(lent_at(&file_bytes, where), length + 1, where);
     }
     if (length + 1 < sweep.longest)
         for (i = 0; i < sweep.letters; i++)
@@ -454,13 +546,10 @@ static void sweep_request(void)
 
 int main(void)
 {
-    int i;
     catch_crashes();
-    for (i = 0; i < 2; i++) {
-        file_bytes.rooms[i] = room_of(0);
-        text_bytes.rooms[i] = room_of(0);
-        buffers[i] = room_of(1);
-    }
+    open_lent(&file_bytes, 0);
+    open_lent(&text_bytes, 0);
+    open_lent(&buffer, 1);
     while (more()) {
         uint8_t letter;
         uint64_t version;
@@ -494,7 +583,7 @@ int main(void)
             give_words(&version, 1);
             break;
         default:
-            if (!days_request(letter) && !fields_request(letter) && !batch_request(letter) && !trips_request(letter) && !sales_request(letter))
+            if (!days_request(letter) && !fields_request(letter) && !batch_request(letter) && !order_request(letter) && !trips_request(letter) && !sales_request(letter))
                 give_up("a request that it doesn't know");
         }
     }

@@ -1,40 +1,36 @@
-/* What driver.c, driver_days.c, driver_fields.c, driver_batch.c, driver_trips.c and driver_sales.c share: the pipes, the rooms that lent memory stands in, and what
-   is said when a call touches what it was not lent. */
+/* What driver.c, driver_days.c, driver_fields.c, driver_batch.c, driver_order.c, driver_trips.c and driver_sales.c share: the pipes, the rooms that lent memory stands
+   in, and what is said when a call touches what it was not lent. */
 #ifndef SLOVDRIM_DRIVER_H
 #define SLOVDRIM_DRIVER_H
 
-#include <stddef.h>
-#include <stdint.h>
+#include "rooms.h"
 
-/* Room for the longest file and one that is too long, in units that are whole pages on every machine, also under an emulator. */
-enum { PAGE = 65536, ROOM = 257 * PAGE };
+/* Room for the longest file and one that is too long. */
+enum { ROOM = 257 * PAGE };
 
-/* A stretch of memory between two pages that nobody may touch. The library is lent `lent`; `own` is the same memory seen a second time,
-   through which the driver fills it. `lent` of a read-only room can't be written to at all. */
-struct room {
-    uint8_t *own;
-    uint8_t *lent;
-};
-
-struct room room_of(int writable);
-
-/* Where `length` bytes stand in a room: at its very end, so that one byte too far is a crash, or at its very beginning, for one byte before. */
-enum placing { AT_END, AT_START, NOWHERE, PLACINGS };
-size_t placed(enum placing where, size_t length);
-
-/* Fills the two read-only rooms of a pair; `lent_at` gives the pointer for one placing, NULL for NOWHERE. */
+/* What is lent to be read or to be written to, once at the end of a room and once at the start of another. Few bytes stand in rooms of one page: so the
+   addresses on the other side of them are forbidden too, from the page's other end on. */
 struct lent {
-    struct room rooms[2];
+    struct room rooms[2], near[2];
     size_t length;
 };
+void open_lent(struct lent *l, int writable);
+
+/* Takes bytes of the request to lend them; `lent_at` gives the pointer for one placing, NULL for NOWHERE. */
 void lend(struct lent *l, size_t length);
 const uint8_t *lent_at(const struct lent *l, enum placing where);
 /* NULL is lent too where there are no bytes. */
 int placings(const struct lent *l);
 
-/* Bytes beside what may be written to, inside its room, that must not change either. */
-void set_beside(uint8_t *own, size_t at, size_t length, uint8_t value);
-int beside_changed(const uint8_t *own, size_t at, size_t length, uint8_t value);
+/* Lends a copy of `bytes` to be written to, for one placing: NOWHERE is at the end, or NULL if there are no bytes. Afterwards `left_at` has what the call left there,
+   and `beside_changed` says whether bytes beside it, inside its room, are others now. */
+uint8_t *lend_to_write(struct lent *l, enum placing where, const uint8_t *bytes, size_t length);
+const uint8_t *left_at(const struct lent *l, enum placing where);
+int beside_changed(const struct lent *l, enum placing where);
+
+/* Zero bytes that no room holds, between forbidden addresses. `readable`: else the bytes themselves are forbidden too. */
+const uint8_t *lend_huge(size_t length, int readable);
+void take_back_huge(const uint8_t *bytes, size_t length);
 
 /* The file that request L brought last, the list of request l, and that of request O. */
 extern struct lent file_bytes, holidays, order;
@@ -62,11 +58,20 @@ int fields_request(uint8_t letter);
 /* One request on a batch as a whole; 0 if the letter is none of its own. */
 int batch_request(uint8_t letter);
 
+/* One request on the order of a batch; 0 if the letter is none of its own. */
+int order_request(uint8_t letter);
+
 /* One request on a trip of a batch; 0 if the letter is none of its own. */
 int trips_request(uint8_t letter);
 
 /* One request on a sale or on a stop's name; 0 if the letter is none of its own. */
 int sales_request(uint8_t letter);
+
+/* The placings of a call that is asked often. With few bytes every placing, from 0 to `count` - 1; with many bytes one, by turns. */
+struct turns {
+    int from, to;
+};
+struct turns turns_of(int count, size_t bytes);
 
 /* The thirteen files of the call under way. */
 enum { FILES = 13 };
@@ -85,6 +90,9 @@ extern struct batch batch;
 /* Places the files that were lent last: every one at its end, every one at its start, or NULL for each that is empty while the others stand at their ends.
    1 if one is empty, so that the third placing is another than the first. */
 int place_batch(enum placing where);
+
+/* How many bytes the batch has. */
+size_t batch_bytes(void);
 
 /* The same for one list. */
 const uint8_t *placed_at(const struct lent *l, enum placing where);

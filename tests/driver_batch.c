@@ -5,7 +5,6 @@
 #include <stdio.h>
 #include <stdlib.h>
 #include <string.h>
-#include <sys/mman.h>
 
 #include "../host/slovdrim.h"
 
@@ -31,6 +30,14 @@ int place_batch(enum placing where)
         empty |= files[i].length == 0;
     }
     return empty;
+}
+
+size_t batch_bytes(void)
+{
+    size_t i, sum = 0;
+    for (i = 0; i < FILES; i++)
+        sum += files[i].length;
+    return sum;
 }
 
 static void call_plain(uint64_t answer[WORDS], enum placing where)
@@ -62,25 +69,26 @@ static void check(void)
     give_answers(answers, n, sizeof(slovdrim_check_answer) / 8);
 }
 
-/* A batch is asked with several hints: the placings by turns. */
+/* A batch is asked with several hints. */
 static void check_hinted(void)
 {
-    static unsigned turn;
     uint64_t answers[PLACINGS][WORDS];
-    int n = place_batch(AT_END) || order.length == 0 ? PLACINGS : PLACINGS - 1;
-    enum placing where = (enum placing)(turn++ % (unsigned)n);
-    place_batch(where);
-    call_hinted(answers[0], where);
-    give_answers(answers, 1, sizeof(slovdrim_check_answer) / 8);
+    struct turns t = turns_of(place_batch(AT_END) || order.length == 0 ? PLACINGS : PLACINGS - 1, batch_bytes());
+    int i;
+    for (i = t.from; i < t.to; i++) {
+        place_batch(i);
+        call_hinted(answers[i - t.from], i);
+    }
+    give_answers(answers, t.to - t.from, sizeof(slovdrim_check_answer) / 8);
 }
 
-/* One file of a length that no room holds: the bytes are there, all zero, and nothing has to be read to refuse them. */
+/* One file of a length that no room holds, all bytes zero: nothing has to be read to refuse it. */
 static void check_of_huge(void)
 {
     uint64_t file = take_word(), length = take_word(), answers[PLACINGS][WORDS];
-    uint8_t *bytes = mmap(NULL, length, PROT_READ, MAP_PRIVATE | MAP_ANONYMOUS | MAP_NORESERVE, -1, 0);
-    if (file < 1 || file > FILES || bytes == MAP_FAILED) {
-        fprintf(stderr, "driver: no addresses for a huge file\n");
+    const uint8_t *bytes = lend_huge(length, 1);
+    if (file < 1 || file > FILES) {
+        fprintf(stderr, "driver: a batch has no file %llu\n", (unsigned long long)file);
         exit(3);
     }
     place_batch(AT_END);
@@ -90,7 +98,7 @@ static void check_of_huge(void)
     give_answers(answers, 1, sizeof(slovdrim_check_answer) / 8);
     call_hinted(answers[0], AT_END);
     give_answers(answers, 1, sizeof(slovdrim_check_answer) / 8);
-    munmap(bytes, length);
+    take_back_huge(bytes, length);
 }
 
 static void lend_file(void)
@@ -116,14 +124,12 @@ void batch_under_way(void)
 
 int batch_request(uint8_t letter)
 {
-    int i;
-    if (order.rooms[0].own == NULL)
-        for (i = 0; i < 2; i++) {
-            int file;
-            for (file = 0; file < FILES; file++)
-                files[file].rooms[i] = room_of(0);
-            order.rooms[i] = room_of(0);
-        }
+    int file;
+    if (order.rooms[0].own == NULL) {
+        for (file = 0; file < FILES; file++)
+            open_lent(&files[file], 0);
+        open_lent(&order, 0);
+    }
     switch (letter) {
     case 'B':
         lend_file();

@@ -68,10 +68,8 @@ static void fits(void)
 
 int days_request(uint8_t letter)
 {
-    if (holidays.rooms[0].own == NULL) {
-        holidays.rooms[0] = room_of(0);
-        holidays.rooms[1] = room_of(0);
-    }
+    if (holidays.rooms[0].own == NULL)
+        open_lent(&holidays, 0);
     switch (letter) {
     case 'd':
         day();

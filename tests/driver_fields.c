@@ -1,11 +1,7 @@
 /* The requests on the fields of the lent file. A file of its own, so that the driver can be built before the archive has the call. */
-#define _GNU_SOURCE
 #include "driver.h"
 
-#include <stdio.h>
-#include <stdlib.h>
 #include <string.h>
-#include <sys/mman.h>
 
 #include "../host/slovdrim.h"
 
@@ -26,17 +22,13 @@ static void fields(void)
 static void fields_of_huge(void)
 {
     uint64_t file = take_word(), length = take_word(), answers[PLACINGS][WORDS];
-    uint8_t *bytes = mmap(NULL, length, PROT_READ, MAP_PRIVATE | MAP_ANONYMOUS | MAP_NORESERVE, -1, 0);
+    const uint8_t *bytes = lend_huge(length, 1);
     slovdrim_fields_answer a;
-    if (bytes == MAP_FAILED) {
-        fprintf(stderr, "driver: no addresses for a huge file\n");
-        exit(3);
-    }
     about_to("slovdrim_fields", file, 0, 0, 0, bytes, length);
     a = slovdrim_fields(file, bytes, length);
     memcpy(answers[0], &a, sizeof a);
     give_answers(answers, 1, sizeof a / 8);
-    munmap(bytes, length);
+    take_back_huge(bytes, length);
 }
 
 int fields_request(uint8_t letter)

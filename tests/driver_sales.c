@@ -8,11 +8,8 @@
 
 #include "../host/slovdrim.h"
 
-/* The questions of many sales, and the three parts of a name. */
-static struct lent asked, name[3];
-
-/* What many sales are answered into. */
-static struct room lists[2];
+/* The questions of many sales, what they are answered into, and the three parts of a name. */
+static struct lent asked, list, name[3];
 
 static const uint64_t *numbers_at(const struct lent *l, enum placing where)
 {
@@ -28,13 +25,6 @@ static const uint32_t *order_at(enum placing where)
 static int placings_with(int something_empty)
 {
     return place_batch(AT_END) || something_empty ? PLACINGS : PLACINGS - 1;
-}
-
-/* One placing after the other. */
-static enum placing by_turns(int count)
-{
-    static unsigned turn;
-    return (enum placing)(turn++ % (unsigned)count);
 }
 
 /* A sale */
@@ -55,45 +45,36 @@ static void sale(int hinted)
 {
     uint64_t q[7], answers[PLACINGS][WORDS];
     int i, n = placings_with(holidays.length == 0 || (hinted && order.length == 0));
+    struct turns t = {0, n};
+    if (hinted)
+        t = turns_of(n, batch_bytes());
     for (i = 0; i < 7; i++)
         q[i] = take_word();
-    if (hinted) {
-        call_sale(answers[0], q, 1, by_turns(n));
-        n = 1;
-    } else {
-        for (i = 0; i < n; i++)
-            call_sale(answers[i], q, 0, i);
-    }
-    give_answers(answers, n, sizeof(slovdrim_sale_answer) / 8);
+    for (i = t.from; i < t.to; i++)
+        call_sale(answers[i - t.from], q, hinted, i);
+    give_answers(answers, t.to - t.from, sizeof(slovdrim_sale_answer) / 8);
 }
 
 /* Many sales */
 
 static uint8_t given[1 << 20], held[1 << 20];
 
-/* The list stands where the other things stand, or is NULL if it is empty; 1 if bytes beside it changed. What it holds afterwards goes to `after`. */
-static int call_sales(uint64_t answer[WORDS], size_t length, uint8_t *after, enum placing where)
+/* The list stands where the other things stand, or is NULL if it is empty. */
+static void call_sales(uint64_t answer[WORDS], size_t length, enum placing where)
 {
-    struct room *room = &lists[where == AT_START ? AT_START : AT_END];
-    size_t at = placed(where == AT_START ? AT_START : AT_END, length);
-    uint64_t *list = where == NOWHERE && length == 0 ? NULL : (uint64_t *)(void *)(room->lent + at);
-    uint8_t mark = (uint8_t)(0x5a ^ (asked.length + length / 8));
+    uint64_t *to = (uint64_t *)(void *)lend_to_write(&list, where, given, length);
     slovdrim_sales_answer a;
-    memcpy(room->own + at, given, length);
-    set_beside(room->own, at, length, mark);
     place_batch(where);
     about_to("slovdrim_sales", order.length / 4, asked.length / 8, length / 8, where, placed_at(&asked, where), asked.length);
-    a = slovdrim_sales(EACH_FILE, order_at(where), order.length / 4, numbers_at(&holidays, where), holidays.length / 8, numbers_at(&asked, where), asked.length / 8, list, length / 8);
+    a = slovdrim_sales(EACH_FILE, order_at(where), order.length / 4, numbers_at(&holidays, where), holidays.length / 8, numbers_at(&asked, where), asked.length / 8, to, length / 8);
     memcpy(answer, &a, sizeof a);
-    memcpy(after, room->own + at, length);
-    return beside_changed(room->own, at, length, mark);
 }
 
 static void sales(int each_placing)
 {
-    static uint8_t other[1 << 20];
     uint64_t answers[PLACINGS][WORDS], differs = 0;
     size_t length;
+    struct turns t;
     int i, n;
     lend(&asked, 8 * take_word());
     length = 8 * take_word();
@@ -103,16 +84,17 @@ static void sales(int each_placing)
     }
     take_bytes(given, length);
     n = placings_with(holidays.length == 0 || order.length == 0 || asked.length == 0 || length == 0);
-    if (call_sales(answers[0], length, held, each_placing ? AT_END : by_turns(n)))
-        differs = 100;
-    for (i = 1; each_placing && i < n; i++) {
-        int beside = call_sales(answers[i], length, other, i);
-        if (memcmp(answers[0], answers[i], sizeof(slovdrim_sales_answer)) != 0 || memcmp(held, other, length) != 0)
+    t = turns_of(n, each_placing ? 0 : batch_bytes());
+    for (i = t.from; i < t.to; i++) {
+        call_sales(answers[i], length, i);
+        if (i == t.from)
+            memcpy(held, left_at(&list, i), length);
+        if (memcmp(answers[t.from], answers[i], sizeof(slovdrim_sales_answer)) != 0 || memcmp(held, left_at(&list, i), length) != 0)
             differs = (uint64_t)i;
-        if (beside)
+        if (beside_changed(&list, i))
             differs = 100 + (uint64_t)i;
     }
-    give_words(answers[0], sizeof(slovdrim_sales_answer) / 8);
+    give_words(answers[t.from], sizeof(slovdrim_sales_answer) / 8);
     give_words(&differs, 1);
     give_bytes(held, length);
 }
@@ -134,32 +116,29 @@ static void call_stop(uint64_t answer[WORDS], int hinted, enum placing where)
 static void stop(int hinted)
 {
     uint64_t answers[PLACINGS][WORDS];
-    int i, n, empty = hinted && order.length == 0;
+    int i, empty = hinted && order.length == 0;
+    struct turns t = {0, 0};
     for (i = 0; i < 3; i++) {
         lend(&name[i], take_word());
         empty |= name[i].length == 0;
     }
-    n = placings_with(empty);
-    if (hinted) {
-        call_stop(answers[0], 1, by_turns(n));
-        n = 1;
-    } else {
-        for (i = 0; i < n; i++)
-            call_stop(answers[i], 0, i);
-    }
-    give_answers(answers, n, sizeof(slovdrim_stop_answer) / 8);
+    t.to = placings_with(empty);
+    if (hinted)
+        t = turns_of(t.to, batch_bytes());
+    for (i = t.from; i < t.to; i++)
+        call_stop(answers[i - t.from], hinted, i);
+    give_answers(answers, t.to - t.from, sizeof(slovdrim_stop_answer) / 8);
 }
 
 int sales_request(uint8_t letter)
 {
-    int i, part;
-    if (asked.rooms[0].own == NULL)
-        for (i = 0; i < 2; i++) {
-            asked.rooms[i] = room_of(0);
-            lists[i] = room_of(1);
-            for (part = 0; part < 3; part++)
-                name[part].rooms[i] = room_of(0);
-        }
+    int part;
+    if (asked.rooms[0].own == NULL) {
+        open_lent(&asked, 0);
+        open_lent(&list, 1);
+        for (part = 0; part < 3; part++)
+            open_lent(&name[part], 0);
+    }
     switch (letter) {
     case 'q':
     case 'Q':

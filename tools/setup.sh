@@ -1,6 +1,8 @@
-# What .ci/run, tests/run, samples/run, bench/run, check and show have in common; they read it with `.` from the root of the repository.
+# What .ci/run, tests/run, tests/desk, tests/install, samples/run, bench/run, check and show have in common; they read it with `.` from the root of the repository.
 #
 #   need COMMAND PACKAGE..   installs Debian packages, if the command is missing
+#   need_header FILE PACKAGE..  the same, if gcc doesn't find the header
+#   bring PACKAGE..          installs them
 #   need_c, need_tests       what C programs over the archive need, and what the tests need besides
 #   kit                      the folder of the Rattle kit that `rt` belongs to
 #   CC, CXX, NM, LINK, RUN   the compilers and nm for x86-64, what they are told when they link, and what runs their programs (arrays)
@@ -15,17 +17,34 @@ command -v rt > /dev/null || { echo "rt, the command of the Rattle kit, is not o
 kit=$(cd "$(dirname "$(readlink -f "$(command -v rt)")")/.." && pwd)
 machine=$(uname -m)
 
+bring() {
+    local as_root=()
+    [ "$(id -u)" = 0 ] || as_root=(sudo)
+    # The lists of packages may be missing or old on a fresh machine.
+    "${as_root[@]}" apt-get update -qq > /dev/null || true
+    DEBIAN_FRONTEND=noninteractive "${as_root[@]}" apt-get install -y -qq --no-install-recommends "$@" > /dev/null
+}
+
 need() {
     local command=$1
     shift
     if command -v "$command" > /dev/null; then return 0; fi
-    local as_root=()
-    [ "$(id -u)" = 0 ] || as_root=(sudo)
     echo "installing $* for $command"
-    # The lists of packages may be missing or old on a fresh machine.
-    "${as_root[@]}" apt-get update -qq > /dev/null || true
-    DEBIAN_FRONTEND=noninteractive "${as_root[@]}" apt-get install -y -qq --no-install-recommends "$@" > /dev/null
+    bring "$@"
     command -v "$command" > /dev/null || { echo "$command is missing, and $* did not bring it" >&2; exit 1; }
+}
+
+has_header() {
+    echo "#include <$1>" | gcc -E - > /dev/null 2>&1
+}
+
+need_header() {
+    local header=$1
+    shift
+    if has_header "$header"; then return 0; fi
+    echo "installing $* for $header"
+    bring "$@"
+    has_header "$header" || { echo "$header is missing, and $* did not bring it" >&2; exit 1; }
 }
 
 need_c() {
@@ -48,6 +67,7 @@ need_tests() {
     fi
     need rustc rustc
     need python3 python3
+    need setpriv util-linux
 }
 
 if [ "$machine" = x86_64 ]; then

@@ -6,9 +6,10 @@ use crate::batch_faults::{broken, Fault, Words, FINE};
 use crate::batches::Batch;
 use crate::fields::{kind_names, name_of, rule_names, rules, NOT_OF_ITS_KIND, RULE_BROKEN};
 use crate::generator::Random;
-use crate::hints::{right, wrong, EMPTY, KINDS, PLAIN, RIGHT};
+use crate::hints::{right, wrong, EMPTY, KINDS, OWN, PLAIN, RIGHT};
 use crate::link::{Call, Link};
-use crate::links::{first_fault, records_of, too_long, verdict, Bytes};
+use crate::links::{first_fault, records_of, too_long, verdict, Bytes, Verdict};
+use crate::order::Meant;
 use crate::trips::{day_rules_broken, stop_rules_broken, trips, DAY_RULES, STOP_RULES};
 
 /// Which hints a batch is asked with.
@@ -22,16 +23,23 @@ pub enum Asked {
     Right,
 }
 
+/// Of so many batches one is put in order too, unless it is of so many bytes or more.
+const IN_ORDER: usize = 12;
+const TOO_MUCH: usize = 500_000;
+
 pub struct Asker<'a> {
     pub link: &'a mut Link,
     /// What the driver has of each file.
     lent: Vec<Vec<u8>>,
     r: Random,
+    /// What lists hold before they are written to.
+    lists: Random,
+    turn: usize,
 }
 
 impl<'a> Asker<'a> {
     pub fn new(link: &'a mut Link, seed: u64) -> Asker<'a> {
-        Asker { link, lent: vec![Vec::new(); 13], r: Random::new(seed) }
+        Asker { link, lent: vec![Vec::new(); 13], r: Random::new(seed), lists: Random::new(!seed), turn: 0 }
     }
 
     pub fn lend(&mut self, batch: &Bytes) {
@@ -54,8 +62,8 @@ impl<'a> Asker<'a> {
     pub fn ask(&mut self, batch: Bytes, want: Words, ways: &[String], before: &[u32], asked: Asked) {
         assert_eq!(first_fault(&batch), want, "the model on a batch made for {:?}: {}", ways, shown(&batch));
         self.lend(&batch);
-        let good = right(&batch).filter(|h| !h.is_empty());
-        let mut hints: Vec<(&'static str, Vec<u32>)> = good.into_iter().map(|h| (RIGHT, h)).collect();
+        let good = right(&batch);
+        let mut hints: Vec<(&'static str, Vec<u32>)> = good.iter().filter(|h| !h.is_empty()).map(|h| (RIGHT, h.clone())).collect();
         if asked != Asked::Right || hints.is_empty() {
             let mut others = wrong(&mut self.r, &batch, before);
             if let Asked::Some(n) = asked {
@@ -74,6 +82,50 @@ impl<'a> Asker<'a> {
             }
             self.link.expect(Call::Check { batch: batch.clone(), huge: None, hint: Arc::new(hint), kind, ways: ways.clone() }, &words);
         }
+        self.order_by_turns(&batch, &Meant::of(want, good), words);
+    }
+
+    /// The order of a batch that is lent, into a list of so many numbers; with every placing, or with one by turns.
+    pub fn order(&mut self, batch: &Arc<Bytes>, meant: &Meant, room: (&'static str, usize), each_placing: bool, ways: Vec<String>) {
+        self.link.letter(if each_placing { b'p' } else { b'P' });
+        self.expect_order(batch, None, meant, room, ways);
+    }
+
+    /// The same where one file is so many zero bytes instead.
+    pub fn order_huge(&mut self, batch: &Arc<Bytes>, huge: (u64, u64), meant: &Meant, room: (&'static str, usize), ways: Vec<String>) {
+        self.link.letter(b'm');
+        self.link.word(huge.0);
+        self.link.word(huge.1);
+        self.expect_order(batch, Some(huge), meant, room, ways);
+    }
+
+    fn expect_order(&mut self, batch: &Arc<Bytes>, huge: Option<(u64, u64)>, meant: &Meant, (room, count): (&'static str, usize), ways: Vec<String>) {
+        let list: Vec<u32> = (0..count).map(|_| self.lists.next() as u32).collect();
+        let (words, after) = meant.answer(&list);
+        self.link.numbers(&list);
+        let bytes = after.iter().flat_map(|n| n.to_le_bytes()).collect();
+        self.link.expect_buffer(Call::Order { batch: batch.clone(), huge, list: Arc::new(list), room, ways }, &words, bytes);
+    }
+
+    /// The check of a batch that is lent with the order that the library makes of it itself, in room for so many numbers.
+    pub fn check_in_order(&mut self, batch: &Arc<Bytes>, words: &Verdict, room: usize) {
+        self.link.letter(b'c');
+        self.link.word(room as u64);
+        self.link.expect(Call::Check { batch: batch.clone(), huge: None, hint: Arc::new(Vec::new()), kind: OWN, ways: Arc::new(Vec::new()) }, words);
+    }
+
+    fn order_by_turns(&mut self, batch: &Arc<Bytes>, meant: &Meant, words: Verdict) {
+        self.turn += 1;
+        if self.turn % IN_ORDER != 1 || batch.iter().map(|b| b.len()).sum::<usize>() >= TOO_MUCH {
+            return;
+        }
+        let (turn, rooms) = (self.turn / IN_ORDER, meant.rooms());
+        for i in [2 * turn, 2 * turn + 1] {
+            self.order(batch, meant, rooms[i % rooms.len()], false, Vec::new());
+        }
+        if let (Meant::InOrder(order), 0) = (meant, turn % 3) {
+            self.check_in_order(batch, &words, order.len() + turn % 2);
+        }
     }
 
     /// One file is so many zero bytes instead.
@@ -89,6 +141,10 @@ impl<'a> Asker<'a> {
         let (batch, ways) = (Arc::new(batch), Arc::new(ways.to_vec()));
         for kind in [PLAIN, KINDS[17]] {
             self.link.expect(Call::Check { batch: batch.clone(), huge: Some(huge), hint: Arc::new(hint.to_vec()), kind, ways: ways.clone() }, &words);
+        }
+        self.turn += 1;
+        if self.turn % IN_ORDER == 1 {
+            self.order_huge(&batch, huge, &Meant::of(want, None), ("some room", 7), Vec::new());
         }
     }
 

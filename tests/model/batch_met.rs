@@ -8,6 +8,7 @@ use crate::batches::{code_fields, KEY_FIELDS};
 use crate::fields::name_of;
 use crate::hints::KINDS;
 use crate::link::Report;
+use crate::order_questions::by_number;
 
 /// What a run must have met besides numbers, places and hints.
 fn ways() -> Vec<String> {
@@ -127,6 +128,7 @@ pub fn told(report: &mut Report) {
     met.line("batches by number", (0..=11).map(|n| (n.to_string(), batches(report, n, None, None))).collect());
     places(&mut met, report);
     met.hints(report, &KINDS, &[0, 7, 8, 9, 10, 11]);
+    by_number(&mut met, report);
     met.ways(report, ways());
     met.finish(report);
 }

@@ -456,7 +456,7 @@ impl Batch {
         self.files[file as usize][row].texts[..KEY_FIELDS[file as usize]].iter().map(|t| number(t)).collect()
     }
 
-    fn arrange_file(&mut self, r: &mut Random, file: u64, order: Order) {
+    pub fn arrange_file(&mut self, r: &mut Random, file: u64, order: Order) {
         let rows = &mut self.files[file as usize];
         shuffle(r, rows);
         if order == Order::Shuffled || KEY_FIELDS[file as usize] == 0 {

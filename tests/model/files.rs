@@ -60,7 +60,7 @@ fn named(link: &mut Link, name: &str, file: u64, bytes: &[u8], count: [u64; 6], 
     println!("{}: file {}, {} bytes: asked", name, file, bytes.len());
 }
 
-/// The small facts of document 01 that concern files, as it gives them.
+/// The small facts of document 01 that concern files, as it gives them, and the text of its first slip.
 pub fn small_facts(link: &mut Link) {
     named(link, "P1", 9, b"", [0; 6], None);
     named(link, "P2", 1, b"\"1.8\";\r\n", [0, 0, 0, 0, 0, 1], Some([0, 0, 0, 0, 0, 1, 3]));
@@ -68,6 +68,7 @@ pub fn small_facts(link: &mut Link) {
     named(link, "P4", 1, b"\"1.8\",", [2, 1, 0, 0, 5, 0], None);
     named(link, "P5", 1, b"\"\"\";\r\n", [0, 0, 0, 0, 0, 1], Some([0, 0, 0, 0, 0, 1, 1]));
     named(link, "P6", 9, b"\"000123\";", [2, 9, 0, 0, 8, 0], None);
+    named(link, "quotes inside a text", 1, b"\"U \"l\xedpy\" 3\";\r\n", [0, 0, 0, 0, 0, 1], Some([0, 0, 0, 0, 0, 1, 10]));
 }
 
 /// The model beside itself: the direct judgement and the one by definition, on every short string and on damaged files. Gives how many.
@@ -352,5 +353,5 @@ pub fn rewriting(link: &mut Link) {
 
 pub fn version(link: &mut Link) {
     link.letter(b'V');
-    link.expect(Call::Version, &[3]);
+    link.expect(Call::Version, &[4]);
 }

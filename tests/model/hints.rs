@@ -29,10 +29,13 @@ pub const KINDS: [&str; 18] = [
 pub const PLAIN: &str = KINDS[0];
 pub const EMPTY: &str = KINDS[1];
 pub const RIGHT: &str = KINDS[2];
+/// The one that slovdrim_order makes; it is no kind of its own, since it has to be the right one.
+pub const OWN: &str = "the library's own";
 
-type Part = Vec<(Vec<u64>, u32)>;
+/// The keys of a file's records and where they begin.
+pub type Part = Vec<(Vec<u64>, u32)>;
 
-fn rises(part: &Part) -> bool {
+pub fn rises(part: &Part) -> bool {
     part.windows(2).all(|w| w[0].0 < w[1].0)
 }
 

@@ -35,6 +35,8 @@ pub enum Call {
     HugeFields { file: u64, length: u64 },
     /// `huge`: a file that is so many zero bytes instead. `kind`: of the hint. `ways`: what the batch was made for.
     Check { batch: Arc<Bytes>, huge: Option<(u64, u64)>, hint: Arc<Vec<u32>>, kind: &'static str, ways: Arc<Vec<String>> },
+    /// `list`: what it held before; `room`: how it is to what is written. `ways`: what there is in the batch.
+    Order { batch: Arc<Bytes>, huge: Option<(u64, u64)>, list: Arc<Vec<u32>>, room: &'static str, ways: Vec<String> },
     /// `ways`: what decided the answer.
     Runs { batch: Arc<Bytes>, line: u64, trip: u64, day: u64, holidays: Arc<Vec<u64>>, ways: Vec<String> },
     TripStop { batch: Arc<Bytes>, line: u64, trip: u64, nth: u64, ways: Vec<String> },
@@ -163,6 +165,7 @@ impl Call {
             Call::Fields { .. } | Call::HugeFields { .. } => "slovdrim_fields",
             Call::Check { kind, .. } if *kind == PLAIN => "slovdrim_check",
             Call::Check { .. } => "slovdrim_check_hinted",
+            Call::Order { .. } => "slovdrim_order",
             Call::Runs { .. } => "slovdrim_runs",
             Call::TripStop { .. } => "slovdrim_trip_stop",
             Call::Sale { hint, .. } if hint.0 == PLAIN => "slovdrim_sale",
@@ -193,6 +196,7 @@ impl Call {
                 let begin = format!("{}, made for {:?}, hint: {}, {} numbers {:?}", name, ways, kind, hint.len(), &hint[..hint.len().min(200)]);
                 begin + &told_files(batch, *huge)
             }
+            Call::Order { batch, huge, list, room, ways } => format!("{}, room for {}, {}; {:?}", name, list.len(), room, ways) + &told_files(batch, *huge),
             Call::Runs { batch, line, trip, day, holidays, .. } => {
                 let begin = format!("{} line {} trip {} day {} in {:?}", name, line, trip, day, &holidays[..holidays.len().min(50)]);
                 begin + &told_files(batch, None)
@@ -214,8 +218,13 @@ impl Call {
         }
     }
 
-    /// Of a list of answers: the first question that was answered otherwise.
+    /// Of a list of answers: the first question that was answered otherwise. Of a list of offsets: the first that is another.
     fn first_unlike(&self, held: &[u8], wanted: &[u8]) -> String {
+        if let Call::Order { .. } = self {
+            let offset = |bytes: &[u8], i: usize| u32::from_le_bytes(bytes[4 * i..4 * i + 4].try_into().unwrap());
+            let unlike = (0..held.len() / 4).find(|&i| offset(held, i) != offset(wanted, i));
+            return unlike.map_or(String::new(), |i| format!("\n  number {} of the list: library {}, model {}", i + 1, offset(held, i), offset(wanted, i)));
+        }
         let words = |bytes: &[u8]| bytes.chunks_exact(8).map(|w| u64::from_le_bytes(w.try_into().unwrap())).collect::<Vec<u64>>();
         let (held, wanted) = (words(held), words(wanted));
         match self {
@@ -231,7 +240,7 @@ impl Call {
     fn ways(&self) -> &[String] {
         match self {
             Call::Check { kind: PLAIN, ways, .. } => ways,
-            Call::Runs { ways, .. } | Call::TripStop { ways, .. } => ways,
+            Call::Order { ways, .. } | Call::Runs { ways, .. } | Call::TripStop { ways, .. } => ways,
             _ => &[],
         }
     }
@@ -258,6 +267,7 @@ impl Call {
         match (self, words[0]) {
             (Call::Fields { file, .. } | Call::HugeFields { file, .. }, _) if (1..=13).contains(file) => name_of(*file),
             (Call::Check { kind, .. }, _) => kind,
+            (Call::Order { room, .. }, _) => room,
             (Call::Sale { hint, .. } | Call::Sales { hint, .. } | Call::StopName { hint, .. }, _) => hint.0,
             (Call::Runs { .. }, 0) => ["doesn't run", "runs"][(words[5] != 0) as usize],
             (Call::TripStop { .. }, 0) if words[12] != 0 => "the last",

@@ -1,9 +1,9 @@
 //! An independent implementation of document 01, "The batch", "Bytes of a file", "Fields", "Days", "A trip's stops" and the sale, and its comparison with the library.
 //!
-//!     model compare files|days|fields|links|trips|whole|sales DRIVER ARGUMENTS..   ask the driver everything and compare
-//!     model program FOLDER PROGRAM ARGUMENTS..                                     run the check program on batches in this folder, which it makes, and compare
-//!     model almanac                                                                every day of the model's own calendar, a line each
-//!     model samples FOLDER                                                         whether the model accepts each file of a batch, read by itself
+//!     model compare files|days|fields|links|order|trips|whole|sales DRIVER ARGUMENTS..   ask the driver everything and compare
+//!     model program FOLDER PROGRAM ARGUMENTS..                                           run the check program on batches in this folder, which it makes, and compare
+//!     model almanac                                                                      every day of the model's own calendar, a line each
+//!     model samples FOLDER                                                               whether the model accepts each file of a batch, read by itself
 //!
 //! SLOVDRIM_SEED is a number that all batches and files by seed begin from; 0 if it isn't set.
 //!
@@ -29,6 +29,8 @@ mod hints;
 mod link;
 mod links;
 mod maker;
+mod order;
+mod order_questions;
 mod plans;
 mod program;
 mod rules;
@@ -189,6 +191,7 @@ fn compare_trips(command: &[String]) -> Report {
     step(&mut report, command, "every stop rule", trip_questions::stop_rules);
     step(&mut report, command, "several trips broken", trip_questions::several_broken);
     step(&mut report, command, "nearly broken", trip_questions::near_misses);
+    step(&mut report, command, "one mark on several trips", trip_questions::one_mark);
     step(&mut report, command, "stops", trip_questions::stops);
     step(&mut report, command, "no such trip, day or stop", trip_questions::no_such);
     step(&mut report, command, "refused batches", trip_questions::refused);
@@ -213,6 +216,19 @@ fn compare_links(command: &[String]) -> Report {
     step(&mut report, command, "two faults", batch_pairs::two_faults);
     step(&mut report, command, "large files", batch_large::large_files);
     step(&mut report, command, "the longest file and list", batch_large::longest);
+    report
+}
+
+fn compare_order(command: &[String]) -> Report {
+    let mut report = Report::default();
+    step(&mut report, command, "small facts", order_questions::small_facts);
+    step(&mut report, command, "samples", order_questions::samples);
+    step(&mut report, command, "few records", order_questions::few_records);
+    step(&mut report, command, "which files", order_questions::which_files);
+    step(&mut report, command, "equal keys", order_questions::equal_keys);
+    step(&mut report, command, "keys as written", order_questions::as_written);
+    step(&mut report, command, "batches with a fault", order_questions::refused);
+    step(&mut report, command, "large files", order_questions::large);
     report
 }
 
@@ -302,6 +318,11 @@ fn main() {
             batch_met::told(&mut report);
             report
         }
+        ["compare", "order", _, ..] => {
+            let mut report = compare_order(&arguments[2..]);
+            order_questions::told(&mut report);
+            report
+        }
         ["compare", "trips", _, ..] => {
             let mut report = compare_trips(&arguments[2..]);
             trip_met::told(&mut report);
@@ -330,7 +351,7 @@ fn main() {
             return;
         }
         _ => {
-            eprintln!("model compare files|days|fields|links|trips|whole|sales DRIVER ARGUMENTS.. | model program FOLDER PROGRAM ARGUMENTS.. | model almanac | model samples FOLDER");
+            eprintln!("model compare files|days|fields|links|order|trips|whole|sales DRIVER ARGUMENTS.. | model program FOLDER PROGRAM ARGUMENTS.. | model almanac | model samples FOLDER");
             std::process::exit(2);
         }
     };

@@ -6,7 +6,7 @@ use crate::hints::KINDS;
 use crate::link::Report;
 use crate::plans::combinations;
 use crate::trip_faults::{day_breaks, STOP_DAMAGE};
-use crate::trip_questions::{shown, NEARLY};
+use crate::trip_questions::{shown, NEARLY, ONE_MARK};
 use crate::trips::{day_rule_names, runs, Moment, Trip, DAY_SIGNS, FIRST_LEAVES, STOP_RULE_NAMES};
 
 /// What the answer on a day hangs on: each type of Caskody record, each day sign, holidays and validity, if without it the answer were another.
@@ -89,6 +89,7 @@ fn ways() -> Vec<String> {
     let two = ["10 and 11 of one trip", "one number of two trips", "10 of a trip, 11 of a later one", "11 of a trip, 10 of a later one"];
     all.extend(two.iter().chain(&["one trip broken", "no trip broken"]).map(|w| format!("several broken: {}", w)));
     all.extend(NEARLY.iter().map(|(name, _)| format!("nearly broken: {}", name)));
+    all.push(ONE_MARK.to_string());
     all.extend(["days, it stands", "days, refused", "stops, it stands", "stops, refused"].iter().map(|w| format!("as they fall: {}", w)));
     all.extend(["0", "10", "11"].iter().map(|w| format!("large trips: {}", w)));
     all

@@ -498,6 +498,30 @@ pub fn near_misses(link: &mut Link) {
     }
 }
 
+/// The way of a batch whose trips all bear one mark.
+pub const ONE_MARK: &str = "one mark, another meaning on each trip";
+
+/// Trips of a line whose codes all bear one mark and mean something else on each: document 01 leaves it out that this is a fault.
+pub fn one_mark(link: &mut Link) {
+    let mut d = Desk::new(link, 64);
+    for i in 0..10 {
+        let mut all = varied(&mut d.m, 4, 3);
+        let mark = any_mark(&mut d.m.r);
+        for (plan, kinds) in all.iter_mut().zip([&b"1"[..], b"24", b"3", b"6"]) {
+            plan.codes = codes_of(&mut d.m.r, kinds, kinds.len() + 1, plan.valid);
+            plan.codes.iter_mut().filter(|c| c.kind != 0).for_each(|c| c.mark = mark.clone());
+            plan.signs.retain(|&s| !is_day_sign(s));
+        }
+        let b = d.batch_of(all.clone(), i);
+        d.check(&b, FINE, &way(ONE_MARK), Asked::Some(2));
+        d.lend_holidays(Vec::new());
+        for plan in &all {
+            let telling = telling_days(&mut d.m.r, plan, plan.valid, &[]);
+            d.ask_plan_days(plan, &telling[..telling.len().min(12)]);
+        }
+    }
+}
+
 /// Every stop of many trips, also of batches with all their files.
 pub fn stops(link: &mut Link) {
     let mut d = Desk::new(link, 58);

@@ -6,6 +6,7 @@ use crate::cases::{self, Case, Each};
 use crate::fields::{fields_of_file, kind_names, name_of, rule_names};
 use crate::link::{Link, Report};
 use crate::maker::Maker;
+use crate::order_questions::by_number;
 use crate::trips::{day_rule_names, FIRST_LEAVES, STOP_RULE_NAMES};
 
 /// So many batches at least.
@@ -71,6 +72,7 @@ pub fn told(report: &mut Report) {
     println!("  {} batches", asked);
     met.line("batches by number", (0..=11).map(|n| (n.to_string(), batches(report, n, None, None))).collect());
     places(&mut met, report);
+    by_number(&mut met, report);
     let mut wanted = ways();
     wanted.push("of two faults the earlier: 1".to_string());
     met.ways(report, wanted);

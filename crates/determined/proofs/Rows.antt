@@ -24,8 +24,11 @@ use Rattle.sales.specs.Sales.{numberedSales, salesAnswer, salesList}
 use Rattle.sales.specs.OneResult.{sales-one}
 use Rattle.naming.specs.Names.{numberedNamed, nameAnswer}
 use Rattle.naming.specs.OneResult.{named-one}
+use Rattle.arrange.specs.Hint.{numberedHint, hintAnswer, hintList}
+use Rattle.arrange.specs.OneResult.{hint-one}
 use Rattle.fileresults.specs.Results.{writeResult}
 use Rattle.saleresults.specs.Results.{salesResult}
+use Rattle.hintresults.specs.Results.{hintResult}
 use Rattle.determined.specs.Table.{Determined}
 
 pub determined : Determined
@@ -47,6 +50,7 @@ determined = record {
   may-sell = λ b line trip day month year from to holidays. settled numberedSale sale-one (saleAnswer b line trip day month year from to holidays);
   many-sales = λ b holidays asked list. settled-both _ _ (settled numberedSales sales-one (salesAnswer b asked (length list))) (settled-self (salesList b holidays asked list));
   stop-named = λ b town part place. settled numberedNamed named-one (nameAnswer b town part place);
+  arrange = λ b list. settled-both _ _ (settled numberedHint hint-one (hintAnswer b (length list))) (settled-self (hintList b list));
   slovdrim-day = λ d m y. settled-self _;
   slovdrim-date = λ n. settled-self _;
   slovdrim-weekday = λ n. settled-self _;
@@ -66,5 +70,6 @@ determined = record {
   slovdrim-sales = λ b holidays asked list. settled-both _ _ (settled-self (salesResult (salesAnswer b asked (length list)))) (settled-self (salesList b holidays asked list));
   slovdrim-stop = λ b town part place. settled-self _;
   slovdrim-stop-hinted = λ b town part place. settled-self _;
+  slovdrim-order = λ b list. settled-both _ _ (settled-self (hintResult (hintAnswer b (length list)))) (settled-self (hintList b list));
   slovdrim-version = settled-self _;
 }

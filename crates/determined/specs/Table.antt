@@ -17,11 +17,14 @@ use Rattle.sale.specs.Answers.{SaleIs}
 use Rattle.sales.specs.Sales.{SalesIs}
 use Rattle.sales.specs.declared.Sales.{Sales}
 use Rattle.naming.specs.Names.{NameIs}
+use Rattle.arrange.specs.Hint.{HintIs}
+use Rattle.arrange.specs.declared.Arranged.{Arranged}
 use Rattle.fileresults.specs.Results.{RecordsGives, StretchGives, WriteGives}
 use Rattle.dayresults.specs.Results.{DayGives, DateGives, WeekdayGives, WeekGives, HolidayGives, FitsGives}
 use Rattle.checkresults.specs.Results.{FieldsGives, CheckGives}
 use Rattle.tripresults.specs.Results.{RunsGives, TripStopGives}
 use Rattle.saleresults.specs.Results.{SaleGives, SalesGives, StopGives}
+use Rattle.hintresults.specs.Results.{HintGives}
 use Rattle.slovdrim.specs.Version.{VersionGives}
 
 pub record Determined : Type 0 where
@@ -48,6 +51,8 @@ pub record Determined : Type 0 where
   -- many sale questions: the answer, and what the lent list holds afterwards
   pub many-sales : (b : Batch) (holidays asked list : List ℕ) → Settled (λ (r : Sales × List ℕ). SalesIs b holidays asked list (r .0) (r .1))
   pub stop-named : (b : Batch) (town part place : Text) → Settled (NameIs b town part place)
+  -- the maker of the hint: the answer, and what the lent list holds afterwards
+  pub arrange : (b : Batch) (list : List ℕ) → Settled (λ (r : Arranged × List ℕ). HintIs b list (r .0) (r .1))
   -- the same calls for C; a hinted one promises what the plain one does, whatever list it is lent
   pub slovdrim-day : (d m y : ℕ) → Settled (DayGives d m y)
   pub slovdrim-date : (n : ℕ) → Settled (DateGives n)
@@ -68,4 +73,5 @@ pub record Determined : Type 0 where
   pub slovdrim-sales : (b : Batch) (holidays asked list : List ℕ) → Settled (SalesGives b holidays asked list)
   pub slovdrim-stop : (b : Batch) (town part place : Text) → Settled (StopGives b town part place)
   pub slovdrim-stop-hinted : (b : Batch) (town part place : Text) → Settled (StopGives b town part place)
+  pub slovdrim-order : (b : Batch) (list : List ℕ) → Settled (HintGives b list)
   pub slovdrim-version : Settled VersionGives

@@ -38,6 +38,20 @@ pub lead-end : (s : List ℕ) (i : ℕ) → length s ≤ i → lead (drop i s) �
 unfolding lead
 lead-end s i h = rw (drop-of-length-le s h)
 
+-- four bytes that aren't LF
+pub lead-four : (s : List ℕ) (i : ℕ) → i + 4 ≤ length s → (getD s i 0 ≡ 10 → ⊥) → (getD s (i + 1) 0 ≡ 10 → ⊥) → (getD s (i + 2) 0 ≡ 10 → ⊥)
+    → (getD s (i + 3) 0 ≡ 10 → ⊥) → lead (drop i s) ≡ 4 + lead (drop (i + 4) s)
+lead-four s i h a b c d =
+    let to : (j k : ℕ) → j + 1 ≡ k → j < length s → (getD s j 0 ≡ 10 → ⊥) → lead (drop j s) ≡ suc (lead (drop k s)) =
+    λ j k e l m. rw e at (lead-miss s j l m) in
+    omega (
+      arith,
+      lead-miss s i (omega arith) a,
+      to (i + 1) (i + 2) (omega arith) (omega arith) b,
+      to (i + 2) (i + 3) (omega arith) (omega arith) c,
+      to (i + 3) (i + 4) (omega arith) (omega arith) d,
+    )
+
 -- bytes with no LF among them
 unfoldable Plain : List ℕ → Type 0
 Plain [] = Unit

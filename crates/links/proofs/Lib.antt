@@ -1,2 +1,3 @@
 pub mod KeyedLaws
 pub mod StageLaws
+pub mod HintLaws

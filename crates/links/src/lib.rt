@@ -10,10 +10,12 @@ use lookup::index_of;
 use thirteen::file_of;
 use walk::cut;
 ghost use mathlib.Core.Path.{_≡_};
+ghost use mathlib.Core.Bool.{true};
+ghost use mathlib.Core.List.{[]};
 ghost use Prim.Native.Nat.{_≤_};
 ghost use lib.Dec.{eqb};
 ghost use lib.ListN.{length};
-ghost use Rattle.laws.specs.Numbered.{refusedIn};
+ghost use Rattle.laws.specs.Numbered.{answered, refusedIn};
 ghost use Rattle.file.specs.Reader.{Classes};
 ghost use Rattle.rules.specs.Texts.{texts};
 ghost use Rattle.link.specs.Stage.{amiss, fieldAmiss, linkFault, linksFault, numberedLinked};
@@ -159,8 +161,80 @@ fn fault_at<'a>(
     Linked::Misplaced(file, k, f)
 }
 
-// The first fault of a file.
-fn file_fault<'a>(
+// Whether nothing is wrong with any record of a file, gone through in the order of its index, whose keys are all different; false too where it
+// has no such index. Its keys rise there, so what its records link to is mostly where it was found last.
+fn all_fit<'a>(
+    file: u64,
+    class: &[u8; 256],
+    f1: &'a [u8],
+    f2: &'a [u8],
+    f3: &'a [u8],
+    f4: &'a [u8],
+    f5: &'a [u8],
+    f6: &'a [u8],
+    f7: &'a [u8],
+    f8: &'a [u8],
+    f9: &'a [u8],
+    f10: &'a [u8],
+    f11: &'a [u8],
+    f12: &'a [u8],
+    f13: &'a [u8],
+    order: &[u32],
+    ways: &[usize],
+    last: &mut [usize],
+) -> bool
+    requires { ⌜ (2 ≤ file) × (file ≤ 13) × Known (thirteen (now f1) (now f2) (now f3) (now f4) (now f5) (now f6) (now f7) (now f8) (now f9) (now f10) (now f11) (now f12) (now f13)) file (now order) (now ways) (now last) (now class) ⌝ }
+    ensures { λ r. ⌜ (r ≡ true → linkFault (thirteen (now (f1 .entry)) (now (f2 .entry)) (now (f3 .entry)) (now (f4 .entry)) (now (f5 .entry)) (now (f6 .entry)) (now (f7 .entry)) (now (f8 .entry)) (now (f9 .entry)) (now (f10 .entry)) (now (f11 .entry)) (now (f12 .entry)) (now (f13 .entry))) file ≡ answered []) × Lasts (thirteen (now (f1 .entry)) (now (f2 .entry)) (now (f3 .entry)) (now (f4 .entry)) (now (f5 .entry)) (now (f6 .entry)) (now (f7 .entry)) (now (f8 .entry)) (now (f9 .entry)) (now (f10 .entry)) (now (f11 .entry)) (now (f12 .entry)) (now (f13 .entry))) (now (last .exit)) ⌝ }
+{
+    if file > 10 {
+        return false;
+    }
+    if ways[(file as usize) * 3] != 2 {
+        return false;
+    }
+    let part = index_of(order, ways, file);
+    if part.len() == 0 {
+        return false;
+    }
+    let s = file_of(file, f1, f2, f3, f4, f5, f6, f7, f8, f9, f10, f11, f12, f13);
+    let n = fields_of(file);
+    let mut places: [usize; 14] = [0; 14];
+    let mut i = 0;
+    while i < part.len() {
+        cut(s, part[i] as usize, n, class, &mut places);
+        if first_amiss(
+            file,
+            s,
+            &places,
+            class,
+            f1,
+            f2,
+            f3,
+            f4,
+            f5,
+            f6,
+            f7,
+            f8,
+            f9,
+            f10,
+            f11,
+            f12,
+            f13,
+            order,
+            ways,
+            last,
+        )
+            != 0
+        {
+            return false;
+        }
+        i += 1;
+    }
+    true
+}
+
+// The first fault of a file, gone through in the order of its records.
+fn file_order_fault<'a>(
     file: u64,
     class: &[u8; 256],
     f1: &'a [u8],
@@ -245,6 +319,74 @@ fn file_fault<'a>(
         at = next;
     }
     Linked::Sound
+}
+
+// The first fault of a file. Where no record has one in any order, there is none.
+fn file_fault<'a>(
+    file: u64,
+    class: &[u8; 256],
+    f1: &'a [u8],
+    f2: &'a [u8],
+    f3: &'a [u8],
+    f4: &'a [u8],
+    f5: &'a [u8],
+    f6: &'a [u8],
+    f7: &'a [u8],
+    f8: &'a [u8],
+    f9: &'a [u8],
+    f10: &'a [u8],
+    f11: &'a [u8],
+    f12: &'a [u8],
+    f13: &'a [u8],
+    order: &[u32],
+    ways: &[usize],
+    last: &mut [usize],
+) -> Linked
+    requires { ⌜ (2 ≤ file) × (file ≤ 13) × Known (thirteen (now f1) (now f2) (now f3) (now f4) (now f5) (now f6) (now f7) (now f8) (now f9) (now f10) (now f11) (now f12) (now f13)) file (now order) (now ways) (now last) (now class) ⌝ }
+    ensures { λ r. ⌜ (numberedLinked r ≡ linkFault (thirteen (now (f1 .entry)) (now (f2 .entry)) (now (f3 .entry)) (now (f4 .entry)) (now (f5 .entry)) (now (f6 .entry)) (now (f7 .entry)) (now (f8 .entry)) (now (f9 .entry)) (now (f10 .entry)) (now (f11 .entry)) (now (f12 .entry)) (now (f13 .entry))) file) × Lasts (thirteen (now (f1 .entry)) (now (f2 .entry)) (now (f3 .entry)) (now (f4 .entry)) (now (f5 .entry)) (now (f6 .entry)) (now (f7 .entry)) (now (f8 .entry)) (now (f9 .entry)) (now (f10 .entry)) (now (f11 .entry)) (now (f12 .entry)) (now (f13 .entry))) (now (last .exit)) ⌝ }
+{
+    if all_fit(
+        file,
+        class,
+        f1,
+        f2,
+        f3,
+        f4,
+        f5,
+        f6,
+        f7,
+        f8,
+        f9,
+        f10,
+        f11,
+        f12,
+        f13,
+        order,
+        ways,
+        last,
+    ) {
+        return Linked::Sound;
+    }
+    file_order_fault(
+        file,
+        class,
+        f1,
+        f2,
+        f3,
+        f4,
+        f5,
+        f6,
+        f7,
+        f8,
+        f9,
+        f10,
+        f11,
+        f12,
+        f13,
+        order,
+        ways,
+        last,
+    )
 }
 
 // Whether nothing is wrong.

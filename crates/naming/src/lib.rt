@@ -5,7 +5,6 @@ use fault::is_none;
 use field::value_of;
 use file::classes;
 use walk::cut;
-use walk::part;
 ghost use mathlib.Core.Path.{_≡_};
 ghost use Prim.Native.Nat.{_+_};
 ghost use lib.Dec.{eqb};
@@ -51,17 +50,17 @@ fn same_text(a: &[u8], b: &[u8]) -> bool
 }
 
 // The stop whose record was cut has this name.
-fn is_named(f2: &[u8], places: &[usize; 14], town: &[u8], district: &[u8], place: &[u8]) -> bool
+fn is_named(f2: &[u8], places: &[usize; 14], town: &[u8], part: &[u8], place: &[u8]) -> bool
     requires { ⌜ Kinded stopsFile (now f2) (now places) ⌝ }
-    ensures { λ r. ⌜ r ≡ isNamed (now (town .entry)) (now (district .entry)) (now (place .entry)) (texts stopsFile (now (f2 .entry)) (now (places .entry))) ⌝ }
+    ensures { λ r. ⌜ r ≡ isNamed (now (town .entry)) (now (part .entry)) (now (place .entry)) (texts stopsFile (now (f2 .entry)) (now (places .entry))) ⌝ }
 {
-    if !same_text(part(f2, places, 1), town) {
+    if !same_text(walk::part(f2, places, 1), town) {
         return false;
     }
-    if !same_text(part(f2, places, 2), district) {
+    if !same_text(walk::part(f2, places, 2), part) {
         return false;
     }
-    same_text(part(f2, places, 3), place)
+    same_text(walk::part(f2, places, 3), place)
 }
 
 // What so many stops of the name come to, the first of them with this number.
@@ -94,11 +93,11 @@ pub fn named_in(
     ways: &[usize],
     class: &[u8; 256],
     town: &[u8],
-    district: &[u8],
+    part: &[u8],
     place: &[u8],
 ) -> Named
     requires { ⌜ Ready stopsFile (now f2) (now order) (now ways) × Classes (now class) ⌝ }
-    ensures { λ r. ⌜ numberedNamed r ≡ countOn (now (town .entry)) (now (district .entry)) (now (place .entry)) 0 0 (recordsIn (fieldsOf stopsFile) (now (f2 .entry))) ⌝ }
+    ensures { λ r. ⌜ numberedNamed r ≡ countOn (now (town .entry)) (now (part .entry)) (now (place .entry)) 0 0 (recordsIn (fieldsOf stopsFile) (now (f2 .entry))) ⌝ }
 {
     let mut places: [usize; 14] = [0; 14];
     let mut found: u64 = 0;
@@ -106,8 +105,8 @@ pub fn named_in(
     let mut at = 0;
     while at < f2.len() {
         let next = cut(f2, at, 12, class, &mut places);
-        if is_named(f2, &places, town, district, place) {
-            first = first_of(found, first, value_of(part(f2, &places, 0)));
+        if is_named(f2, &places, town, part, place) {
+            first = first_of(found, first, value_of(walk::part(f2, &places, 0)));
             found += 1;
         }
         at = next;
@@ -132,10 +131,10 @@ pub fn stop_named<'a>(
     f13: &'a [u8],
     order: &[u32],
     town: &[u8],
-    district: &[u8],
+    part: &[u8],
     place: &[u8],
 ) -> Named
-    ensures { λ r. ⌜ NameIs (thirteen (now (f1 .entry)) (now (f2 .entry)) (now (f3 .entry)) (now (f4 .entry)) (now (f5 .entry)) (now (f6 .entry)) (now (f7 .entry)) (now (f8 .entry)) (now (f9 .entry)) (now (f10 .entry)) (now (f11 .entry)) (now (f12 .entry)) (now (f13 .entry))) (now (town .entry)) (now (district .entry)) (now (place .entry)) r ⌝ }
+    ensures { λ r. ⌜ NameIs (thirteen (now (f1 .entry)) (now (f2 .entry)) (now (f3 .entry)) (now (f4 .entry)) (now (f5 .entry)) (now (f6 .entry)) (now (f7 .entry)) (now (f8 .entry)) (now (f9 .entry)) (now (f10 .entry)) (now (f11 .entry)) (now (f12 .entry)) (now (f13 .entry))) (now (town .entry)) (now (part .entry)) (now (place .entry)) r ⌝ }
 {
     let class = classes();
     let mut ways: [usize; 33] = [0; 33];
@@ -160,5 +159,5 @@ pub fn stop_named<'a>(
     if !is_none(fault) {
         return Named::Refused(fault);
     }
-    named_in(f2, order, &ways, &class, town, district, place)
+    named_in(f2, order, &ways, &class, town, part, place)
 }

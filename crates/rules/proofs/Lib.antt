@@ -1,2 +1,3 @@
 pub mod KindLaws
 pub mod RuleLaws
+pub mod DateLaws

@@ -1,17 +1,19 @@
 // Document 01's rules inside one record, asked of texts. All of it is inner: what each function means is its definition in the
 // crate field, specs/Rules.antt.
-use field::day_of;
 use field::is_byte;
 use field::is_digits;
 use field::is_one_of;
 use field::is_time;
 use field::value_of;
 ghost use mathlib.Core.Path.{_≡_};
+ghost use mathlib.Core.Bool.{true};
 ghost use mathlib.Core.List.{[], _∷_};
+ghost use Prim.Native.Nat.{_+_, _≤_};
+ghost use lib.ListN.{length, take, drop};
 ghost use Rattle.laws.specs.Tests.{pick, both, oneOf};
-ghost use Rattle.field.specs.Values.{isEmpty, given, isByte, among, isTime};
+ghost use Rattle.field.specs.Values.{isEmpty, given, isByte, among, allDigits, value, isDateText, isTime};
 ghost use Rattle.field.specs.Rules.{asks, alike, isCZ, inOrder, closes, isTimeMark, isNoteMark, datesRule, timesRule, passesBy};
-ghost use Rattle.rules.specs.Texts.{DateOrNone};
+ghost use Rattle.rules.specs.Texts.{DateOrNone, ranked};
 
 fn is_cz(t: &[u8]) -> bool
     ensures { λ r. ⌜ r ≡ isCZ (now (t .entry)) ⌝ }
@@ -45,6 +47,22 @@ pub fn name_given(kind: &[u8], name: &[u8]) -> bool
     true
 }
 
+// The value of n digits at a place.
+fn digits_at(t: &[u8], at: usize, n: usize) -> u64
+    requires { ⌜ (allDigits (now t) ≡ true) × (at + n ≤ length (now t)) × (n ≤ 18) ⌝ }
+    ensures { λ r. ⌜ r ≡ value (take n (drop at (now (t .entry)))) ⌝ }
+{
+    value_of(&t[at..at + n])
+}
+
+// A date's digits as one number, year before month before day: it rises with the day number, and is had without counting days.
+fn rank_of(t: &[u8]) -> u64
+    requires { ⌜ isDateText (now t) ≡ true ⌝ }
+    ensures { λ r. ⌜ r ≡ ranked (now (t .entry)) ⌝ }
+{
+    digits_at(t, 4, 4) * 10000 + digits_at(t, 2, 2) * 100 + digits_at(t, 0, 2)
+}
+
 // inner: a to-date needs a from-date and isn't before it
 pub fn closes_in_order(from: &[u8], to: &[u8]) -> bool
     requires { ⌜ DateOrNone (now from) × DateOrNone (now to) ⌝ }
@@ -56,7 +74,7 @@ pub fn closes_in_order(from: &[u8], to: &[u8]) -> bool
     if from.len() == 0 {
         return false;
     }
-    day_of(from) <= day_of(to)
+    rank_of(from) <= rank_of(to)
 }
 
 // inner: the from-date isn't after the to-date, where both are given

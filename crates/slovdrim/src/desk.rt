@@ -182,10 +182,10 @@ pub extern "C" fn slovdrim_stop<'a>(
     f12: &'a [u8],
     f13: &'a [u8],
     town: &[u8],
-    district: &[u8],
+    part: &[u8],
     place: &[u8],
 ) -> StopResult
-    ensures { λ r. ⌜ StopGives (thirteen (now (f1 .entry)) (now (f2 .entry)) (now (f3 .entry)) (now (f4 .entry)) (now (f5 .entry)) (now (f6 .entry)) (now (f7 .entry)) (now (f8 .entry)) (now (f9 .entry)) (now (f10 .entry)) (now (f11 .entry)) (now (f12 .entry)) (now (f13 .entry))) (now (town .entry)) (now (district .entry)) (now (place .entry)) r ⌝ }
+    ensures { λ r. ⌜ StopGives (thirteen (now (f1 .entry)) (now (f2 .entry)) (now (f3 .entry)) (now (f4 .entry)) (now (f5 .entry)) (now (f6 .entry)) (now (f7 .entry)) (now (f8 .entry)) (now (f9 .entry)) (now (f10 .entry)) (now (f11 .entry)) (now (f12 .entry)) (now (f13 .entry))) (now (town .entry)) (now (part .entry)) (now (place .entry)) r ⌝ }
 {
     let zero: [u32; 1] = [0; 1];
     let list = &zero[..0];
@@ -205,7 +205,7 @@ pub extern "C" fn slovdrim_stop<'a>(
         f13,
         list,
         town,
-        district,
+        part,
         place,
     );
     named_handed(answer)
@@ -229,10 +229,10 @@ pub extern "C" fn slovdrim_stop_hinted<'a>(
     f13: &'a [u8],
     order: &[u32],
     town: &[u8],
-    district: &[u8],
+    part: &[u8],
     place: &[u8],
 ) -> StopResult
-    ensures { λ r. ⌜ StopGives (thirteen (now (f1 .entry)) (now (f2 .entry)) (now (f3 .entry)) (now (f4 .entry)) (now (f5 .entry)) (now (f6 .entry)) (now (f7 .entry)) (now (f8 .entry)) (now (f9 .entry)) (now (f10 .entry)) (now (f11 .entry)) (now (f12 .entry)) (now (f13 .entry))) (now (town .entry)) (now (district .entry)) (now (place .entry)) r ⌝ }
+    ensures { λ r. ⌜ StopGives (thirteen (now (f1 .entry)) (now (f2 .entry)) (now (f3 .entry)) (now (f4 .entry)) (now (f5 .entry)) (now (f6 .entry)) (now (f7 .entry)) (now (f8 .entry)) (now (f9 .entry)) (now (f10 .entry)) (now (f11 .entry)) (now (f12 .entry)) (now (f13 .entry))) (now (town .entry)) (now (part .entry)) (now (place .entry)) r ⌝ }
 {
     named_handed(stop_named(
         f1,
@@ -250,7 +250,7 @@ pub extern "C" fn slovdrim_stop_hinted<'a>(
         f13,
         order,
         town,
-        district,
+        part,
         place,
     ))
 }

@@ -42,5 +42,5 @@ pub extern "C" fn slovdrim_write(
 pub extern "C" fn slovdrim_version() -> u64
     ensures { λ r. ⌜ VersionGives r ⌝ }
 {
-    3
+    4
 }

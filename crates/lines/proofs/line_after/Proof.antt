@@ -18,18 +18,18 @@ abbrev μ-loop : tie.MeasureT-loop
 returns : tie.Need-returns Inv-loop μ-loop
 returns c =
     let p = c .before .before .before in
-    let a = p .before .args in
+    let a = p .before .before .before .args in
     omega (arith, lead-hit (now (a .s)) (p .loop .i) (omega arith) (c .if1 .taken))
 
 loop-again : tie.Need-loop-again Inv-loop μ-loop
 loop-again c =
     let p = c .before .before .before in
-    omega (arith, lead-miss (now (p .before .args .s)) (p .loop .i) (omega arith) (c .if1 .left))
+    omega (arith, lead-miss (now (p .before .before .before .args .s)) (p .loop .i) (omega arith) (c .if1 .left))
 
 returns-2 : tie.Need-returns-2 Inv-loop μ-loop
 returns-2 c =
     let p = c .before in
-    let a = p .before .args in
+    let a = p .before .before .before .args in
     omega (arith, lead-end (now (a .s)) (p .loop .i) (c .loop-test .left))
 
 pub line-after-spec : {M : Type 1} → statement M
@@ -38,6 +38,7 @@ line-after-spec =
     (tie.spec
     Inv-loop
     μ-loop
+    (λ c κs. omega arith)  -- past-eights-requires
     (λ c. omega arith)  -- loop-holds
     (λ c. omega arith)  -- shared-slice-read-if1
     (λ c. omega arith)  -- add-result

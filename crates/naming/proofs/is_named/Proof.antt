@@ -46,7 +46,7 @@ unfolding isNamed
 returns-2 c =
     let p = c .before .before in
     let a = begin (p .before .before .before) .args in
-    let d = part-same (now (a .f2)) (now (a .places)) 2 (omega arith) (p .part2 .ensures) (now (a .district)) (c .before .same-text2 .ensures) ∙ not-true _ (c .if2 .taken) in
+    let d = part-same (now (a .f2)) (now (a .places)) 2 (omega arith) (p .part2 .ensures) (now (a .part)) (c .before .same-text2 .ensures) ∙ not-true _ (c .if2 .taken) in
     rw (town-same (p .before), d)
 
 part-requires-3 : tie.Need-part-requires-3
@@ -59,7 +59,7 @@ returns-3 c =
     let e = c .before .before in
     let p = e .before .before in
     let a = begin (p .before .before .before) .args in
-    let d = part-same (now (a .f2)) (now (a .places)) 2 (omega arith) (p .part2 .ensures) (now (a .district)) (e .before .same-text2 .ensures) ∙ not-false _ (e .if2 .left) in
+    let d = part-same (now (a .f2)) (now (a .places)) 2 (omega arith) (p .part2 .ensures) (now (a .part)) (e .before .same-text2 .ensures) ∙ not-false _ (e .if2 .left) in
     rw (town-same (p .before), d, part-same (now (a .f2)) (now (a .places)) 3 (omega arith) (c .before .part3 .ensures) (now (a .place)) (c .same-text3 .ensures))
 
 pub is-named-spec : {M : Type 1} → statement M

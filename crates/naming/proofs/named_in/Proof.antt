@@ -22,12 +22,12 @@ use Rattle.naming.proofs.named_in.Statement.{statement}
 use Rattle.naming.proofs.named_in.Tie as tie
 
 abbrev Inv-loop : tie.InvT-loop
-Inv-loop f2 order ways class town district place places₀ found₀ first₀ at₀ places found first at =
+Inv-loop f2 order ways class town part place places₀ found₀ first₀ at₀ places found first at =
     (found ≤ at) × PlaceIn 2 f2 at
-    × (countOn town district place found first (recordsIn (fieldsOf 2) (drop at f2)) ≡ countOn town district place 0 0 (recordsIn (fieldsOf 2) f2))
+    × (countOn town part place found first (recordsIn (fieldsOf 2) (drop at f2)) ≡ countOn town part place 0 0 (recordsIn (fieldsOf 2) f2))
 
 abbrev μ-loop : tie.MeasureT-loop
-μ-loop f2 order ways class town district place places₀ found₀ first₀ at₀ places found first at = length f2 - at
+μ-loop f2 order ways class town part place places₀ found₀ first₀ at₀ places found first at = length f2 - at
 
 loop-holds : tie.Need-loop-holds Inv-loop μ-loop
 loop-holds c =
@@ -93,7 +93,7 @@ loop-again c =
     let n = number-text (kinded q) 1 (v .before .part .ensures) stop-key in (
       omega (arith, l .loop .inv .0, x .far),
       next-place q,
-      count-here (now (a .town)) (now (a .district)) (now (a .place)) (l .loop .found) (l .loop .first) {r = stop q} (x .rest) (i .is-named .ensures) (t .if1 .taken)
+      count-here (now (a .town)) (now (a .part)) (now (a .place)) (l .loop .found) (l .loop .first) {r = stop q} (x .rest) (i .is-named .ensures) (t .if1 .taken)
           (v .value-of .ensures ∙ ap (λ (y : Text). value y) (sym n)) (c .first-of .ensures)
           ∙ l .loop .inv .2,
     )
@@ -109,7 +109,7 @@ loop-again-2 c =
     let x = q .cut .ensures in (
       omega (arith, l .loop .inv .0, x .far),
       next-place q,
-      count-other (now (a .town)) (now (a .district)) (now (a .place)) (l .loop .found) (l .loop .first) {r = stop q} (x .rest) (i .is-named .ensures) (c .if1 .left) ∙ l .loop .inv .2,
+      count-other (now (a .town)) (now (a .part)) (now (a .place)) (l .loop .found) (l .loop .first) {r = stop q} (x .rest) (i .is-named .ensures) (c .if1 .left) ∙ l .loop .inv .2,
     )
 
 returns : tie.Need-returns Inv-loop μ-loop
@@ -117,7 +117,7 @@ returns c =
     let l = c .before .before in
     let a = begin l .args in
     c .settled-by .ensures
-    ∙ count-end (now (a .town)) (now (a .district)) (now (a .place)) (l .loop .found) (l .loop .first) _ (none-left (fieldsOf 2) (now (a .f2)) (l .loop .at) (c .before .loop-test .left))
+    ∙ count-end (now (a .town)) (now (a .part)) (now (a .place)) (l .loop .found) (l .loop .first) _ (none-left (fieldsOf 2) (now (a .f2)) (l .loop .at) (c .before .loop-test .left))
     ∙ l .loop .inv .2
 
 pub named-in-spec : {M : Type 1} → statement M

@@ -26,7 +26,7 @@ returns c =
     let i = c .before in
     let k = i .before .before in
     let a = begin k .args in
-    answer-refused (files (begin k)) (now (a .town)) (now (a .district)) (now (a .place)) _ (k .check-with .ensures .0) _ (i .is-none .ensures) (c .if1 .taken)
+    answer-refused (files (begin k)) (now (a .town)) (now (a .part)) (now (a .place)) _ (k .check-with .ensures .0) _ (i .is-none .ensures) (c .if1 .taken)
 
 -- nothing was found
 nothing : (c : tie.Else1) → faultOf (files (begin (c .before .before .before))) ≡ answered []
@@ -51,7 +51,7 @@ returns-2 c =
     let i = e .before in
     let k = i .before .before in
     let a = begin k .args in
-    answer-is (files (begin k)) (now (a .town)) (now (a .district)) (now (a .place)) _ (k .check-with .ensures .0) _ (i .is-none .ensures) (e .if1 .left) (c .named-in .ensures)
+    answer-is (files (begin k)) (now (a .town)) (now (a .part)) (now (a .place)) _ (k .check-with .ensures .0) _ (i .is-none .ensures) (e .if1 .left) (c .named-in .ensures)
 
 pub stop-named-spec : {M : Type 1} → statement M
 stop-named-spec =

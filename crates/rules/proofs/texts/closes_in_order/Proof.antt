@@ -1,7 +1,8 @@
--- `rules::texts::closes_in_order` meets its contract: with no to-date nothing is asked, and what is given is a date.
+-- `rules::texts::closes_in_order` meets its contract: with no to-date nothing is asked, and what is given is a date, so its rank will do.
 use Rattle.laws.specs.Tests.{tests}
 use Rattle.field.specs.Rules.{closes}
 use Rattle.rules.proofs.RuleLaws.{is-given}
+use Rattle.rules.proofs.DateLaws.{closes-ranked}
 use Rattle.rules.proofs.texts.closes_in_order.Statement.{statement}
 use Rattle.rules.proofs.texts.closes_in_order.Tie as tie
 
@@ -13,15 +14,19 @@ returns-2 : tie.Need-returns-2
 unfolding closes
 returns-2 c = search tests
 
-day-of-requires : tie.Need-day-of-requires
-day-of-requires c κs = is-given _ (c .before .before .before .before .pre .0) (c .if2 .left)
+rank-of-requires : tie.Need-rank-of-requires
+rank-of-requires c κs = is-given _ (c .before .before .before .before .pre .0) (c .if2 .left)
 
-day-of-requires-2 : tie.Need-day-of-requires-2
-day-of-requires-2 c κs = is-given _ (c .before .before .before .before .before .pre .1) (c .before .before .if1 .left)
+rank-of-requires-2 : tie.Need-rank-of-requires-2
+rank-of-requires-2 c κs = is-given _ (c .before .before .before .before .before .pre .1) (c .before .before .if1 .left)
 
 returns-3 : tie.Need-returns-3
-unfolding closes
-returns-3 c = rw (c .before .day-of .ensures, c .day-of2 .ensures) (search tests)
+returns-3 c =
+    let from = c .before .before .if2 .left in
+    let to = c .before .before .before .if1 .left in
+    let pre = c .before .before .before .before .before .before .pre in
+    rw (c .before .rank-of .ensures, c .rank-of2 .ensures)
+    (closes-ranked _ _ from to (is-given _ (pre .0) from) (is-given _ (pre .1) to))
 
 pub closes-in-order-spec : {M : Type 1} → statement M
 closes-in-order-spec =
@@ -29,6 +34,6 @@ closes-in-order-spec =
     (tie.spec
     returns
     returns-2
-    day-of-requires
-    day-of-requires-2
+    rank-of-requires
+    rank-of-requires-2
     returns-3)

@@ -1,0 +1,2 @@
+pub mod KeyedLaws
+pub mod HintLaws

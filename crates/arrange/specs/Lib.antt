@@ -1,0 +1,3 @@
+pub mod Hint
+pub mod Keyed
+pub mod OneResult

@@ -1,0 +1,2 @@
+pub mod RankedLaws
+pub mod HeapLaws

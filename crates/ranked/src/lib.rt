@@ -1,0 +1,1 @@
+// Theorems alone: numbers in order of their ranks, and heaps of them.

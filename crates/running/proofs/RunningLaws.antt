@@ -9,8 +9,8 @@ use lib.ListN.{length, getD, drop, set, replicate, length-set}
 use borrow.Author.Tests.{eq-eqb, ne-eqb, lt-ltb, le-ltb, ltb-true, ltb-false}
 use Rattle.laws.specs.Tests.{pick, oneOf, either}
 use Rattle.laws.specs.Below.{below}
-use Rattle.calendar.specs.Weeks.{weekday}
-use Rattle.calendar.specs.Signs.{isDaySign, signFits}
+use Rattle.weeks.specs.Weeks.{weekday}
+use Rattle.signs.specs.Signs.{isDaySign, signFits}
 use Rattle.file.specs.Files.{fieldsOf, fieldCounts}
 use Rattle.file.specs.Format.{Fields}
 use Rattle.file.specs.Records.{recordsIn}

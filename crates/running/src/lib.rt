@@ -1,6 +1,5 @@
 // A trip's days: document 01, "Days". Its record of Spoje was cut; its time codes are walked through in Caskody, and the signs of its codes are
 // looked up in Pevnykod.
-use calendar::signs;
 use coded::code_sign;
 use trail::along;
 use trail::onward;

@@ -11,7 +11,7 @@ use borrow.Author.Tests.{not-true, not-false}
 use Rattle.laws.specs.Tests.{pick, both, oneOf, either}
 use Rattle.laws.specs.Numbered.{Numbered, answered, refused}
 use Rattle.calendar.specs.Answers.{numberedDay, dayAnswer}
-use Rattle.calendar.specs.Dates.{isDate, dayNumber}
+use Rattle.dates.specs.Dates.{isDate, dayNumber}
 use Rattle.calendar.specs.Laws.{number-is-day}
 use Rattle.calendar.specs.declared.Day.{Day}
 use Rattle.file.specs.Files.{fieldsOf}

@@ -6,7 +6,7 @@ use mathlib.Core.List.{List, [], _∷_}
 use lib.Dec.{eqb, ltb}
 use Rattle.laws.specs.Tests.{pick, both, oneOf}
 use Rattle.laws.specs.Numbered.{Numbered, answered, refused}
-use Rattle.calendar.specs.Dates.{isDate, dayNumber}
+use Rattle.dates.specs.Dates.{isDate, dayNumber}
 use Rattle.file.specs.Format.{Fields}
 use Rattle.field.specs.Names.{linesFile, tripStopsFile, arrival, departure}
 use Rattle.keys.specs.Keys.{has, keyOf, same}

@@ -9,8 +9,8 @@ use lib.ListN.{length, getD}
 use borrow.Author.Tests.{eqb-true, eqb-false, ne-eqb, leb-true, lt-ltb}
 use Rattle.laws.specs.Tests.{pick, both, oneOf, either, never, both-left, both-right}
 use Rattle.file.specs.Format.{Text, Fields}
-use Rattle.calendar.specs.Dates.{within}
-use Rattle.calendar.specs.Signs.{parityFits}
+use Rattle.dates.specs.Dates.{within}
+use Rattle.signs.specs.Signs.{parityFits}
 use Rattle.field.specs.Kinds.{admits}
 use Rattle.field.specs.Names.{timeCodesFile, mark, codeType, codeFrom, codeTo, kilometres, arrival, departure}
 use Rattle.field.specs.Rules.{asks, meets, timeCodeRule, markRule, datesRule, closes, isTimeMark, isNoteMark}

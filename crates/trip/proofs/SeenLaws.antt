@@ -10,7 +10,7 @@ use lib.ListN.{length, getD, set, replicate, length-set, getD-replicate, List·g
 use lib.Seq.{getD-set-same, getD-set-other}
 use borrow.Author.Tests.{eq-eqb, ne-eqb, eqb-true, eqb-false, leb-true, leb-false}
 use Rattle.laws.specs.Tests.{pick, both, oneOf, either, never, clash, both-left, both-right}
-use Rattle.calendar.specs.Dates.{within}
+use Rattle.dates.specs.Dates.{within}
 use Rattle.file.specs.Format.{Text, Fields}
 use Rattle.field.specs.Values.{isEmpty, given, isByte, among, isDigit, allDigits, isDigits, valueFrom, value}
 use Rattle.field.specs.Names.{timeCodesFile, mark, codeType, codeFrom, codeTo}

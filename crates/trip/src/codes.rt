@@ -1,5 +1,4 @@
 // Time codes: what one says, and what those of a trip come to, by a list in which place t is 1 if there is one of type t, else 0.
-use calendar::signs;
 use field::day_of;
 use field::value_of;
 use walk::part;
@@ -9,7 +8,7 @@ ghost use mathlib.Core.List.{List};
 ghost use Prim.Native.Nat.{ℕ, _≤_};
 ghost use lib.Dec.{eqb};
 ghost use Rattle.laws.specs.Tests.{pick, both};
-ghost use Rattle.calendar.specs.Signs.{parityFits};
+ghost use Rattle.signs.specs.Signs.{parityFits};
 ghost use Rattle.file.specs.Format.{Fields};
 ghost use Rattle.field.specs.Names.{timeCodesFile, mark};
 ghost use Rattle.field.specs.Rules.{meets};

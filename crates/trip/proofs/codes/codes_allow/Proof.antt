@@ -2,7 +2,7 @@
 use mathlib.Core.Path.{refl, sym, _∙_}
 use borrow.Author.Needs.{needs}
 use borrow.Author.Tests.{eq-eqb, ne-eqb}
-use Rattle.calendar.specs.Signs.{parityFits}
+use Rattle.signs.specs.Signs.{parityFits}
 use Rattle.rules.proofs.RuleLaws.{fails, holds}
 use Rattle.trip.specs.Days.{codesAllow, allAllow}
 use Rattle.trip.proofs.LeafLaws.{has-one, has-no-one, holds-one, asks-period}

@@ -21,10 +21,10 @@ use Rattle.trail.specs.Lists.{select, rising, backward, travel}
 use Rattle.trail.specs.Trail.{upward, after, stepOf, placeOf}
 use Rattle.trail.proofs.ListLaws.{All, all-select, all-rising}
 use Rattle.trip.specs.Stops.{stopsFit}
-use Rattle.trip.specs.Track.{visitOf, setOut, trackOn, trackBehind, timeOn, timeBehind, shrunk, lengthOn, lengthBehind, courseEnds}
-use Rattle.trip.specs.declared.course.Track.{Track}
-use Rattle.trip.specs.declared.course.Visit.{Visit}
-use Rattle.trip.proofs.TrackLaws.{AllTame, kinds-tame, course-is-stops}
+use Rattle.course.specs.Track.{visitOf, setOut, trackOn, trackBehind, timeOn, timeBehind, shrunk, lengthOn, lengthBehind, courseEnds}
+use Rattle.course.specs.declared.Track.{Track}
+use Rattle.course.specs.declared.Visit.{Visit}
+use Rattle.course.proofs.TrackLaws.{AllTame, kinds-tame, course-is-stops}
 use Rattle.coded.specs.Ready.{Ready}
 use Rattle.calling.specs.Calling.{travelled, goesUp, firstPlace}
 use Rattle.coded.specs.Left.{leftAt}

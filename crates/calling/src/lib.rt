@@ -1,7 +1,6 @@
 // A trip's stops: document 01, "A trip's stops". Its records are walked through in Zasspoje in travel order.
 use trail::along;
 use trail::onward;
-use trip::course;
 use walk::cut;
 ghost use mathlib.Core.Path.{_≡_};
 ghost use Prim.Native.Nat.{_<_};

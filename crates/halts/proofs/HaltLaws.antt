@@ -36,9 +36,9 @@ use Rattle.trail.specs.Lists.{select, firstOr, some, travel, backward}
 use Rattle.trail.specs.Trail.{upward, after, stepOf, placeOf}
 use Rattle.trail.proofs.ListLaws.{length-travel}
 use Rattle.trip.specs.Stops.{arrives, departs, timed}
-use Rattle.trip.specs.Track.{visitOf}
+use Rattle.course.specs.Track.{visitOf}
 use Rattle.trip.specs.View.{signsFrom}
-use Rattle.trip.specs.declared.course.Visit.{Visit}
+use Rattle.course.specs.declared.Visit.{Visit}
 use Rattle.trip.proofs.ViewLaws.{first-found, first-same, of-trip-fields}
 use Rattle.coded.specs.Left.{leftAt}
 use Rattle.coded.specs.Ready.{Ready}

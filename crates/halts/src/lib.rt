@@ -4,7 +4,6 @@ use coded::code_sign;
 use field::value_of;
 use trail::by_two;
 use trail::onward;
-use trip::course;
 use walk::Found;
 use walk::cut;
 use walk::part;

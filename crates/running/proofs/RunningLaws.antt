@@ -35,9 +35,9 @@ use Rattle.trail.specs.Trail.{upward, ahead, stepOf, placeOf, Walks}
 use Rattle.trail.proofs.ListLaws.{All, all-select, all-rising}
 use Rattle.trail.proofs.TrailLaws.{ahead-begin, comes}
 use Rattle.trip.specs.Days.{typeOf, hasType, holdsDay, hasDaySign, threeWithOther, daysFit, signsAllow}
-use Rattle.trip.specs.Seen.{bit, Flags, Seen, Held, seenBehind, heldBehind, firstMark, differsFrom, marksDiffer, AllMeet}
+use Rattle.codes.specs.Seen.{bit, Flags, Seen, Held, seenBehind, heldBehind, firstMark, differsFrom, marksDiffer, AllMeet}
 use Rattle.trip.specs.View.{signsFrom}
-use Rattle.trip.proofs.SeenLaws.{flags-new, flags-seen, flags-held, seen-all, held-all}
+use Rattle.codes.proofs.SeenLaws.{flags-new, flags-seen, flags-held, seen-all, held-all}
 
 with-none : (t : Bool) → t ≡ oneOf t false
 with-none true = refl

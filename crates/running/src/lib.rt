@@ -3,7 +3,6 @@
 use coded::code_sign;
 use trail::along;
 use trail::onward;
-use trip::codes;
 use walk::cut;
 ghost use mathlib.Core.Path.{_≡_};
 ghost use mathlib.Core.Bool.{true, false};
@@ -22,7 +21,7 @@ ghost use Rattle.rules.specs.Texts.{texts, Kinded};
 ghost use Rattle.coded.specs.Ready.{Ready};
 ghost use Rattle.trail.specs.Trail.{upward};
 ghost use Rattle.trip.specs.Days.{typeOf, holdsDay, hasDaySign, daysFit, signsAllow, codesAllow};
-ghost use Rattle.trip.specs.Seen.{seenBehind, heldBehind, firstMark, differsFrom, marksDiffer};
+ghost use Rattle.codes.specs.Seen.{seenBehind, heldBehind, firstMark, differsFrom, marksDiffer};
 ghost use Rattle.trip.specs.Stage.{tripsFile};
 ghost use Rattle.trip.specs.View.{signsFrom};
 

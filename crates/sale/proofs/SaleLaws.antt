@@ -32,8 +32,8 @@ use Rattle.rules.specs.Texts.{texts}
 use Rattle.link.specs.Signs.{isIn}
 use Rattle.thirteen.specs.Batch.{Batch, recordsOf}
 use Rattle.trip.specs.Stops.{timed}
-use Rattle.trip.specs.Track.{visitOf}
-use Rattle.trip.specs.declared.course.Visit.{Visit}
+use Rattle.course.specs.Track.{visitOf}
+use Rattle.course.specs.declared.Visit.{Visit}
 use Rattle.trip.proofs.ViewLaws.{first-found}
 use Rattle.trips.specs.Plain.{plainRuns}
 use Rattle.halts.specs.Halts.{plainSigns}

@@ -14,7 +14,7 @@ use Rattle.link.specs.Signs.{isIn}
 use Rattle.trail.specs.Lists.{firstOr}
 use Rattle.trip.specs.Stage.{tripsFile}
 use Rattle.trip.specs.Stops.{arrives, departs, timed}
-use Rattle.trip.specs.Track.{minuteOr}
+use Rattle.course.specs.Track.{minuteOr}
 use Rattle.trips.specs.Plain.{plainRuns}
 use Rattle.halts.specs.Halts.{plainSigns}
 use Rattle.counter.specs.Plain.{tripRecord}

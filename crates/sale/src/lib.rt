@@ -8,7 +8,6 @@ use file::classes;
 use halts::stop_has;
 use roll::stop_of;
 use trail::by_two;
-use trip::course;
 use trips::runs::trip_runs;
 use walk::Found;
 use walk::cut;

@@ -76,7 +76,7 @@ byte-size b [] e = never e
 byte-size b (x ∷ []) e = refl
 byte-size b (x ∷ y ∷ t) e = never e
 
-among-size : (bs : List ℕ) (t : Text) → among bs t ≡ true → length t ≡ 1
+pub among-size : (bs : List ℕ) (t : Text) → among bs t ≡ true → length t ≡ 1
 unfolding among
 among-size [] t e = never e
 among-size (b ∷ bs) t e = either (isByte b t) (λ p. byte-size b t p) (λ p. among-size bs t (rw p at e))

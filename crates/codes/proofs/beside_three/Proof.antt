@@ -1,4 +1,4 @@
--- `trip::codes::beside_three` meets its contract: of seven places of 0 and 1, one is 1.
+-- `codes::beside_three` meets its contract: of seven places of 0 and 1, one is 1.
 use native.Mathlib.Omega.{arith}
 use borrow.Author.Needs.{needs}
 use Rattle.codes.proofs.LeafLaws.{beside-three}

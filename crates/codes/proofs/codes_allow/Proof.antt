@@ -1,4 +1,4 @@
--- `trip::codes::codes_allow` meets its contract: type 3 decides alone, then 4, then 2, and then all others have to allow the day.
+-- `codes::codes_allow` meets its contract: type 3 decides alone, then 4, then 2, and then all others have to allow the day.
 use mathlib.Core.Path.{refl, sym, _∙_}
 use borrow.Author.Needs.{needs}
 use borrow.Author.Tests.{eq-eqb, ne-eqb}

@@ -1,4 +1,4 @@
--- `trip::codes::days_fit` meets its contract: the first test that holds refuses the trip.
+-- `codes::days_fit` meets its contract: the first test that holds refuses the trip.
 use mathlib.Core.Path.{refl, sym, _∙_}
 use borrow.Author.Needs.{needs}
 use Rattle.trip.specs.Days.{daysFit, threeWithOther}

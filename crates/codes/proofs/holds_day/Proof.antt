@@ -1,4 +1,4 @@
--- `trip::codes::holds_day` meets its contract: a date that is given is read, and a period with no to-date is one day.
+-- `codes::holds_day` meets its contract: a date that is given is read, and a period with no to-date is one day.
 use mathlib.Core.Path.{refl}
 use native.Mathlib.Omega.{arith}
 use borrow.Author.Needs.{needs}

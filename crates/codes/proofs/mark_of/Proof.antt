@@ -1,4 +1,4 @@
--- `trip::codes::mark_of` meets its contract: the mark of a time code that has a type is two digits.
+-- `codes::mark_of` meets its contract: the mark of a time code that has a type is two digits.
 use native.Mathlib.Omega.{arith}
 use Rattle.file.specs.Files.{fieldsOf, fieldCounts}
 use Rattle.rules.proofs.KindLaws.{text-at}

@@ -1,4 +1,4 @@
--- `trip::codes::one_with_weeks` meets its contract: the place of type 1, and one of two others.
+-- `codes::one_with_weeks` meets its contract: the place of type 1, and one of two others.
 use mathlib.Core.Path.{refl}
 use native.Mathlib.Omega.{arith}
 use borrow.Author.Needs.{needs}

@@ -1,4 +1,4 @@
--- `trip::codes::two_weeks` meets its contract: of four places of 0 and 1, more than one is 1.
+-- `codes::two_weeks` meets its contract: of four places of 0 and 1, more than one is 1.
 use native.Mathlib.Omega.{arith}
 use borrow.Author.Needs.{needs}
 use Rattle.codes.proofs.LeafLaws.{two-weeks}

@@ -1,4 +1,4 @@
--- `trip::codes::type_allows` meets its contract: where there is none of the type nothing is asked.
+-- `codes::type_allows` meets its contract: where there is none of the type nothing is asked.
 use borrow.Author.Needs.{needs}
 use Rattle.laws.specs.Tests.{tests}
 use Rattle.rules.proofs.RuleLaws.{fails, holds}

@@ -1,4 +1,4 @@
--- `trip::codes::type_of` meets its contract: the field is of a type's kind, so a text that is given is one byte, `1` to `8`.
+-- `codes::type_of` meets its contract: the field is of a type's kind, so a text that is given is one byte, `1` to `8`.
 use native.Mathlib.Omega.{arith}
 use borrow.Author.Needs.{needs}
 use Rattle.file.specs.Files.{fieldsOf, fieldCounts}

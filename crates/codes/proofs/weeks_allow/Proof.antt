@@ -1,4 +1,4 @@
--- `trip::codes::weeks_allow` meets its contract: type after type, the first that doesn't allow the day ends it.
+-- `codes::weeks_allow` meets its contract: type after type, the first that doesn't allow the day ends it.
 use mathlib.Core.Path.{refl, _∙_}
 use borrow.Author.Needs.{needs}
 use Rattle.rules.proofs.RuleLaws.{fails, holds}

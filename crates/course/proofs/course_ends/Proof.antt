@@ -1,4 +1,4 @@
--- `trip::course::course_ends` meets its contract: the first test that fails ends it.
+-- `course::course_ends` meets its contract: the first test that fails ends it.
 use borrow.Author.Tests.{not-true, not-false}
 use Rattle.laws.specs.Tests.{tests}
 use Rattle.course.specs.Track.{courseEnds, trackEnds}

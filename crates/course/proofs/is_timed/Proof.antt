@@ -1,4 +1,4 @@
--- `trip::course::is_timed` meets its contract: of the texts of its kind a time alone has four bytes.
+-- `course::is_timed` meets its contract: of the texts of its kind a time alone has four bytes.
 use Rattle.course.proofs.LeafLaws.{four-timed}
 use Rattle.course.proofs.is_timed.Statement.{statement}
 use Rattle.course.proofs.is_timed.Tie as tie

@@ -1,4 +1,4 @@
--- `trip::course::length_on` meets its contract: kilometres that are not given leave the last where it was, and one that falls is seen.
+-- `course::length_on` meets its contract: kilometres that are not given leave the last where it was, and one that falls is seen.
 use borrow.Author.Tests.{not-true, not-false}
 use Rattle.laws.specs.Tests.{tests}
 use Rattle.course.specs.Track.{lengthOn}

@@ -1,4 +1,4 @@
--- `trip::course::may_come` meets its contract: the first test that fails ends it, for the first record with a time and for a later one.
+-- `course::may_come` meets its contract: the first test that fails ends it, for the first record with a time and for a later one.
 use lib.Dec.{eqb}
 use borrow.Author.Tests.{eq-eqb, ne-eqb, not-true, not-false}
 use Rattle.course.specs.Track.{timedOn}

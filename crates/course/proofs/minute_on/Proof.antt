@@ -1,4 +1,4 @@
--- `trip::course::minute_on` meets its contract: no time leaves the last minute where it was, and one that falls is seen.
+-- `course::minute_on` meets its contract: no time leaves the last minute where it was, and one that falls is seen.
 use borrow.Author.Tests.{not-true, not-false}
 use Rattle.laws.specs.Tests.{tests}
 use Rattle.course.specs.Track.{minuteOn}

@@ -1,4 +1,4 @@
--- `trip::course::minute_or` meets its contract: a time's minute is one of the day's.
+-- `course::minute_or` meets its contract: a time's minute is one of the day's.
 use mathlib.Core.Path.{sym, _∙_}
 use native.Mathlib.Omega.{arith}
 use borrow.Author.Needs.{needs}

@@ -1,4 +1,4 @@
--- `trip::course::one_more` meets its contract: one more than none is one.
+-- `course::one_more` meets its contract: one more than none is one.
 use Rattle.laws.specs.Tests.{tests}
 use Rattle.course.proofs.one_more.Statement.{statement}
 use Rattle.course.proofs.one_more.Tie as tie

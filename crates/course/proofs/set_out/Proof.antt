@@ -1,4 +1,4 @@
--- `trip::course::set_out` meets its contract, member by member.
+-- `course::set_out` meets its contract, member by member.
 use mathlib.Core.Path.{refl}
 use Rattle.course.specs.Track.{setOut}
 use Rattle.course.proofs.set_out.Statement.{statement}

@@ -1,4 +1,4 @@
--- `trip::course::stands_in` meets its contract: of the texts of their kind `|` and `<` alone have one byte.
+-- `course::stands_in` meets its contract: of the texts of their kind `|` and `<` alone have one byte.
 use Rattle.trip.specs.Stops.{passesIn}
 use Rattle.course.proofs.LeafLaws.{one-passes, else-passes-not, one-is-pass}
 use Rattle.course.proofs.stands_in.Statement.{statement}

@@ -1,4 +1,4 @@
--- `trip::course::time_on` meets its contract: the arrival, then the departure.
+-- `course::time_on` meets its contract: the arrival, then the departure.
 use borrow.Author.Needs.{needs}
 use Rattle.course.specs.Track.{timeOn}
 use Rattle.course.proofs.time_on.Statement.{statement}

@@ -1,4 +1,4 @@
--- `trip::course::timed_on` meets its contract, member by member.
+-- `course::timed_on` meets its contract, member by member.
 use borrow.Author.Needs.{needs}
 use Rattle.course.specs.Track.{timedOn}
 use Rattle.course.proofs.timed_on.Statement.{statement}

@@ -1,4 +1,4 @@
--- `trip::course::track_on` meets its contract: with a time, and without.
+-- `course::track_on` meets its contract: with a time, and without.
 use mathlib.Core.Path.{sym, _∙_}
 use borrow.Author.Needs.{needs}
 use Rattle.course.specs.Track.{trackOn}

@@ -1,4 +1,4 @@
--- `trip::course::untimed_on` meets its contract, member by member, before the first record with a time and behind it.
+-- `course::untimed_on` meets its contract, member by member, before the first record with a time and behind it.
 use borrow.Author.Needs.{needs}
 use borrow.Author.Tests.{eq-eqb, ne-eqb}
 use Rattle.course.specs.Track.{untimedOn}

@@ -1,4 +1,4 @@
--- `trip::course::visit_of` meets its contract, member by member: the texts are the record's kilometres, arrival and departure.
+-- `course::visit_of` meets its contract, member by member: the texts are the record's kilometres, arrival and departure.
 use native.Mathlib.Omega.{arith}
 use borrow.Author.Needs.{needs}
 use Rattle.file.specs.Files.{fieldsOf, fieldCounts}

@@ -1,10 +1,10 @@
 // What is wrong with a field of a record that was cut: its link, and then its sign. Fields count from 1, and texts from 0.
 use field::value_of;
 use link::Link;
-use link::is_permitted;
-use link::link_of;
 use lookup::look_one;
 use lookup::look_two;
+use targets::is_permitted;
+use targets::link_of;
 use walk::Found;
 use walk::cut;
 use walk::part;

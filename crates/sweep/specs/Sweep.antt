@@ -1,0 +1,38 @@
+-- What one pass over a file's bytes sees of a record, and of the file: what the sweep's functions ask and ensure. Nothing is said of what it waves away.
+use Prim.Native.Nat.{ℕ, _+_, _≤_, _<_}
+use mathlib.Core.Path.{_≡_}
+use mathlib.Core.Bool.{true}
+use mathlib.Core.List.{List, [], _++_}
+use lib.ListN.{length, drop}
+use Rattle.laws.specs.Numbered.{answered}
+use Rattle.file.specs.Fields.{aheadFrom}
+use Rattle.file.specs.Files.{isFile, fieldsOf}
+use Rattle.file.specs.Format.{writtenRecord, PermittedTexts}
+use Rattle.file.specs.Records.{recordsIn}
+use Rattle.file.specs.declared.Ahead.the-variants.{Field}
+use Rattle.field.specs.Stage.{faultsFrom}
+use Rattle.walk.specs.Walk.{LegalFrom, Parted, cutRecord}
+
+-- the record's last field is whole, and the next record starts at `next`
+pub record Ended (s : List ℕ) (close next : ℕ) : Type 0 where
+  pub ahead : aheadFrom s true close ≡ Field next
+  pub near : next ≤ length s
+
+-- a record was read from `at` to `next`: the bytes there are the writing of n permitted texts, which stand where the places say
+pub record ReadTo (n : ℕ) (s : List ℕ) (at : ℕ) (places : List ℕ) (next : ℕ) : Type 0 where
+  pub far : at < next
+  pub near : next ≤ length s
+  pub parted : Parted n s places
+  pub bytes : drop at s ≡ writtenRecord (cutRecord n s places) ++ drop next s
+  pub texts : PermittedTexts (cutRecord n s places)
+
+-- n is how many fields a record of this file has
+pub record Fielded (file n : ℕ) : Type 0 where
+  pub file-is : isFile file ≡ true
+  pub fields : n ≡ fieldsOf file
+  pub few : n ≤ 13
+
+-- s is legal from `at` on, and its records there have no fault, whichever number the first of them has
+pub record SoundFrom (file n : ℕ) (s : List ℕ) (at : ℕ) : Type 0 where
+  pub legal : LegalFrom n s at
+  pub fits : (k : ℕ) → faultsFrom file k (recordsIn n (drop at s)) ≡ answered []

@@ -238,7 +238,7 @@ fn by_entry(
 }
 
 // inner: where a trip's walk begins
-pub fn set_out(
+pub fn first_step(
     file: u64,
     s: &[u8],
     order: &[u32],
@@ -277,29 +277,28 @@ pub fn step_on(
     places: &[usize; 14],
     order: &[u32],
     ways: &[usize],
-    at: usize,
+    from: Step,
     next: usize,
-    entry: usize,
     up: bool,
     line: u64,
     trip: u64,
 ) -> Step
-    requires { ⌜ Walks file (now s) (now order) (now ways) at × Kinded file (now s) (now places) × Treads file (now s) (now places) line trip at next × (line < none) × (trip < none) ⌝ }
+    requires { ⌜ Walks file (now s) (now order) (now ways) (from .at) × Kinded file (now s) (now places) × Treads file (now s) (now places) line trip (from .at) next × (line < none) × (trip < none) ⌝ }
     ensures { λ r. ⌜ r .at ≡ placeOf (now (s .entry)) (stepOf file up line trip (after up (third file (texts file (now (s .entry)) (now (places .entry))))) (recordsIn (fieldsOf file) (now (s .entry)))) ⌝ }
 {
     let i = (file as usize) * 3;
     if ways[i] == 1 {
-        let found = beside(file, s, at, next, up, line, trip);
+        let found = beside(file, s, from.at, next, up, line, trip);
         return Step {
             at: place_of(s, found),
             entry: 0,
         };
     }
     if ways[i] == 2 {
-        return by_entry(file, s, places, order, ways, at, entry, up, line, trip);
+        return by_entry(file, s, places, order, ways, from.at, from.entry, up, line, trip);
     }
     Step {
-        at: onward(file, s, places, order, ways, at, up, line, trip),
+        at: onward(file, s, places, order, ways, from.at, up, line, trip),
         entry: 0,
     }
 }

@@ -1,12 +1,12 @@
--- `trail::set_out` meets its contract: by an index its first entry tells, else the walk begins by a search.
+-- `trail::first_step` meets its contract: by an index its first entry tells, else the walk begins by a search.
 use mathlib.Core.Path.{_≡_, refl, _∙_}
 use mathlib.Core.Bool.{true}
 use borrow.Author.Needs.{needs}
 use denote.Ref.{now}
 use Rattle.lookup.specs.Ways.{apart, howOf}
 use Rattle.trail.proofs.WalkLaws.{way-asks}
-use Rattle.trail.proofs.set_out.Statement.{statement}
-use Rattle.trail.proofs.set_out.Tie as tie
+use Rattle.trail.proofs.first_step.Statement.{statement}
+use Rattle.trail.proofs.first_step.Tie as tie
 
 first-entry-requires : tie.Need-first-entry-requires
 first-entry-requires c κs =
@@ -27,8 +27,8 @@ returns-2 c = c .along .ensures ∙ rw (c .before .if3 .taken)
 returns-3 : tie.Need-returns-3
 returns-3 c = c .along2 .ensures ∙ rw (c .before .if3 .left)
 
-pub set-out-spec : {M : Type 1} → statement M
-set-out-spec =
+pub first-step-spec : {M : Type 1} → statement M
+first-step-spec =
     tie.close
     (tie.spec
     (λ c. search needs)  -- mul-i

@@ -23,14 +23,7 @@ pub struct Stops {
 }
 
 // inner: where the walk in travel order begins
-pub fn first_of(
-    f8: &[u8],
-    order: &[u32],
-    ways: &[usize],
-    last: usize,
-    line: u64,
-    trip: u64,
-) -> Step
+pub fn first_of(f8: &[u8], order: &[u32], ways: &[usize], last: usize, line: u64, trip: u64) -> Step
     requires { ⌜ Ready tripStopsFile (now f8) (now order) (now ways) × PlaceIn tripStopsFile (now f8) last × (line < none) × (trip < none) ⌝ }
     ensures { λ r. ⌜ r .at ≡ firstPlace (now (f8 .entry)) line trip ⌝ }
 {

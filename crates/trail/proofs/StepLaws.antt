@@ -1,7 +1,7 @@
 -- A step from one of a trip's records to the one beside it in key order: where keys rise the line behind it or before it, in an index whose keys
 -- are all different the neighbouring entry.
 use mathlib.Core.Path.{_≡_, refl, sym, ap, subst, _∙_}
-use mathlib.Core.Bool.{true, false}
+use mathlib.Core.Bool.{true}
 use mathlib.Core.List.{List, [], _∷_, _++_}
 use Prim.Native.Nat.{ℕ, _+_, _*_, _-_, _≤_, _<_}
 use native.Mathlib.Omega.{arith}

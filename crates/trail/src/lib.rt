@@ -97,15 +97,7 @@ pub fn onward(
 }
 
 // Where keys rise: the record behind one of the trip's, or the one before it, if it is the trip's too.
-fn beside(
-    file: u64,
-    s: &[u8],
-    at: usize,
-    next: usize,
-    up: bool,
-    line: u64,
-    trip: u64,
-) -> Found
+fn beside(file: u64, s: &[u8], at: usize, next: usize, up: bool, line: u64, trip: u64) -> Found
     requires { ⌜ KeyFile file (now s) × (length (keyFields file) ≡ 3) × KeysRise file (now s) × PlaceIn file (now s) at × (at < length (now s)) × (next ≡ behind (now s) at) × (ofTrip file line trip (recordAt file (now s) at) ≡ true) × (line < none) × (trip < none) ⌝ }
     ensures { λ r. ⌜ r ≡ stepOf file up line trip (after up (third file (recordAt file (now (s .entry)) at))) (recordsIn (fieldsOf file) (now (s .entry))) ⌝ }
 {
@@ -295,7 +287,18 @@ pub fn step_on(
         };
     }
     if ways[i] == 2 {
-        return by_entry(file, s, places, order, ways, from.at, from.entry, up, line, trip);
+        return by_entry(
+            file,
+            s,
+            places,
+            order,
+            ways,
+            from.at,
+            from.entry,
+            up,
+            line,
+            trip,
+        );
     }
     Step {
         at: onward(file, s, places, order, ways, from.at, up, line, trip),

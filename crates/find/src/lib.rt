@@ -164,8 +164,8 @@ fn least_third(file: u64, s: &[u8], line: u64, trip: u64, x: u64) -> u64
     least
 }
 
-// The record at a place, if it is one of the trip's.
-fn if_of_trip(file: u64, s: &[u8], at: usize, line: u64, trip: u64) -> Found
+// inner: the record at a place, if it is one of the trip's
+pub fn if_of_trip(file: u64, s: &[u8], at: usize, line: u64, trip: u64) -> Found
     requires { ⌜ KeyFile file (now s) × (length (keyFields file) ≡ 3) × PlaceIn file (now s) at × (line < none) × (trip < none) ⌝ }
     ensures { λ r. ⌜ r ≡ tripAt file line trip (now (s .entry)) at ⌝ }
 {

@@ -33,7 +33,7 @@ use Rattle.link.specs.Numeric.{numeric, NumberAt, CodeAt}
 use Rattle.link.specs.Signs.{signIn, isIn}
 use Rattle.link.proofs.KindOfLinks.{code-kind}
 use Rattle.trail.specs.Lists.{select, firstOr, some, travel, backward}
-use Rattle.trail.specs.Trail.{upward, after, stepOf, placeOf}
+use Rattle.trail.specs.Trail.{upward, begin, after, stepOf, placeOf}
 use Rattle.trail.proofs.ListLaws.{length-travel}
 use Rattle.trip.specs.Stops.{arrives, departs, timed}
 use Rattle.course.specs.Track.{visitOf}
@@ -42,7 +42,7 @@ use Rattle.course.specs.declared.Visit.{Visit}
 use Rattle.trip.proofs.ViewLaws.{first-found, first-same, of-trip-fields}
 use Rattle.coded.specs.Left.{leftAt}
 use Rattle.coded.specs.Ready.{Ready}
-use Rattle.coded.proofs.LeftLaws.{left-start, left-done, left-next}
+use Rattle.coded.proofs.LeftLaws.{step-mine, left-start, left-done, left-next}
 use Rattle.calling.specs.Calling.{travelled, goesUp, firstPlace}
 use Rattle.calling.proofs.CallingLaws.{three-numbers}
 use Rattle.halts.specs.Halts.{lineStopAt, plainSigns}
@@ -86,6 +86,11 @@ drop-none all i n e h =
     let z : i + (n - i) ≡ n = omega arith in
     rw z at (sym (drop-drop (n - i) i all)) ∙ ap (drop (n - i)) e ∙ drop-of-length-le [] {i = n - i} (omega arith)
 
+-- where a walk stands: at one of the trip's records, or at the end
+pub record On (s : List ℕ) (line trip at : ℕ) : Type 0 where
+  pub place : PlaceIn 8 s at
+  pub mine : at < length s → ofTrip 8 line trip (recordAt 8 s at) ≡ true
+
 module _ (s order ways : List ℕ) (ready : Ready 8 s order ways) (line trip : ℕ) (l : line < none) (t : trip < none) where
   abbrev left : ℕ → List Fields
   left at = leftAt 8 s (goesUp trip) line trip at
@@ -94,11 +99,12 @@ module _ (s order ways : List ℕ) (ready : Ready 8 s order ways) (line trip : �
   mine = travelled line trip (recordsIn (fieldsOf 8) s)
 
   -- where the walk begins, all are left
-  pub walk-start : (at : ℕ) → at ≡ firstPlace s line trip → PlaceIn 8 s at × (left at ≡ mine)
+  pub walk-start : (at : ℕ) → at ≡ firstPlace s line trip → On s line trip at × (left at ≡ mine)
   unfolding firstPlace
   walk-start at e =
       let w = left-start 8 s order ways ready three-numbers line trip l t (goesUp trip) at e in
-      (w .0, w .1 ∙ sym (travel-order line trip (recordsIn (fieldsOf 8) s)))
+      let on : On s line trip at = record { place = w .0; mine = step-mine 8 s order ways ready three-numbers line trip l t (goesUp trip) (begin (goesUp trip)) at e } in
+      (on, w .1 ∙ sym (travel-order line trip (recordsIn (fieldsOf 8) s)))
 
   -- at the end none is
   pub walk-done : (at : ℕ) → length s ≤ at → left at ≡ []
@@ -120,8 +126,11 @@ module _ (s order ways : List ℕ) (ready : Ready 8 s order ways) (line trip : �
   -- a record comes
   module _ (at : ℕ) (h : at < length s) {old places : List ℕ} {end : ℕ} (cut : Cuts (fieldsOf 8) s at old places end) where
     module _ (next : ℕ) (e : next ≡ placeOf s (stepOf 8 (goesUp trip) line trip (after (goesUp trip) (third 8 (texts 8 s places))) (recordsIn (fieldsOf 8) s))) where
-      pub walk-next : PlaceIn 8 s next × (left at ≡ texts 8 s places ∷ left next)
-      walk-next = left-next 8 s order ways ready three-numbers line trip l t (goesUp trip) at h cut next e
+      pub walk-next : On s line trip next × (left at ≡ texts 8 s places ∷ left next)
+      walk-next =
+          let w = left-next 8 s order ways ready three-numbers line trip l t (goesUp trip) at h cut next e in
+          let x = after (goesUp trip) (third 8 (texts 8 s places)) in
+          (record { place = w .0; mine = step-mine 8 s order ways ready three-numbers line trip l t (goesUp trip) x next e }, w .1)
 
       -- fewer are left
       pub walk-less : length (left next) < length (left at)

@@ -2,8 +2,10 @@
 use calling::first_of;
 use coded::code_sign;
 use field::value_of;
+use trail::Step;
 use trail::by_two;
 use trail::onward;
+use trail::step_on;
 use walk::Found;
 use walk::cut;
 use walk::part;
@@ -43,11 +45,11 @@ pub fn count_stops(
     let up = trip % 2 == 1;
     let mut places: [usize; 14] = [0; 14];
     let mut n: u64 = 0;
-    let mut at = first_of(f8, order, ways, 0, line, trip);
-    while at < f8.len() {
-        cut(f8, at, 10, class, &mut places);
+    let mut step = first_of(f8, order, ways, 0, line, trip);
+    while step.at < f8.len() {
+        let next = cut(f8, step.at, 10, class, &mut places);
         n += 1;
-        at = onward(8, f8, &places, order, ways, at, up, line, trip);
+        step = step_on(8, f8, &places, order, ways, step, next, up, line, trip);
     }
     n
 }
@@ -68,16 +70,16 @@ pub fn nth_stop(
     let up = trip % 2 == 1;
     let mut places: [usize; 14] = [0; 14];
     let mut i: u64 = 0;
-    let mut at = first_of(f8, order, ways, 0, line, trip);
-    while at < f8.len() {
+    let mut step = first_of(f8, order, ways, 0, line, trip);
+    while step.at < f8.len() {
         if i == n {
-            return at;
+            return step.at;
         }
-        cut(f8, at, 10, class, &mut places);
+        let next = cut(f8, step.at, 10, class, &mut places);
         i += 1;
-        at = onward(8, f8, &places, order, ways, at, up, line, trip);
+        step = step_on(8, f8, &places, order, ways, step, next, up, line, trip);
     }
-    at
+    step.at
 }
 
 // inner: whether a record with a time comes behind the one at a place, in travel order
@@ -96,9 +98,12 @@ pub fn timed_behind(
     let up = trip % 2 == 1;
     let mut places: [usize; 14] = [0; 14];
     cut(f8, start, 10, class, &mut places);
-    let mut at = onward(8, f8, &places, order, ways, start, up, line, trip);
-    while at < f8.len() {
-        cut(f8, at, 10, class, &mut places);
+    let mut step = Step {
+        at: onward(8, f8, &places, order, ways, start, up, line, trip),
+        entry: 0,
+    };
+    while step.at < f8.len() {
+        let next = cut(f8, step.at, 10, class, &mut places);
         let v = course::visit_of(f8, &places);
         if v.arrives {
             return true;
@@ -106,7 +111,7 @@ pub fn timed_behind(
         if v.departs {
             return true;
         }
-        at = onward(8, f8, &places, order, ways, at, up, line, trip);
+        step = step_on(8, f8, &places, order, ways, step, next, up, line, trip);
     }
     false
 }

@@ -1,12 +1,12 @@
--- `wording::few_enough` meets its contract. The loop's invariant: what is left of 61,440 is what the files before leave of it.
+-- `together::few_enough` meets its contract. The loop's invariant: what is left of 61,440 is what the files before leave of it.
 use Prim.Native.Nat.{_-_}
 use native.Mathlib.Omega.{arith}
 use borrow.Author.Needs.{needs}
 use denote.Ref.{now}
 use Rattle.thirteen.specs.Batch.{Batch, thirteen}
-use Rattle.wording.proofs.LengthLaws.{Left, left-start, left-short, left-next, left-done}
-use Rattle.wording.proofs.few_enough.Statement.{statement}
-use Rattle.wording.proofs.few_enough.Tie as tie
+use Rattle.together.proofs.LengthLaws.{Left, left-start, left-short, left-next, left-done}
+use Rattle.together.proofs.few_enough.Statement.{statement}
+use Rattle.together.proofs.few_enough.Tie as tie
 
 abbrev Inv-loop : tie.InvT-loop
 Inv-loop f1 f2 f3 f4 f5 f6 f7 f8 f9 f10 f11 f12 f13 file₀ left₀ file left =

@@ -1,13 +1,13 @@
--- `wording::lay_refused` meets its contract: each text with its number stands behind the last, so they are one lay.
+-- `phrase::lay_refused` meets its contract: each text with its number stands behind the last, so they are one lay.
 use native.Mathlib.Nat.{zero-add}
 use mathlib.Core.Path.{_∙_}
 use native.Mathlib.Omega.{arith}
 use borrow.Author.Needs.{needs}
 use denote.Ref.{now}
-use Rattle.wording.specs.Line.{refusedLine}
-use Rattle.wording.proofs.LayLaws.{laid-six}
-use Rattle.wording.proofs.lay_refused.Statement.{statement}
-use Rattle.wording.proofs.lay_refused.Tie as tie
+use Rattle.phrase.specs.Phrases.{refusedLine}
+use Rattle.phrase.proofs.LayLaws.{laid-six}
+use Rattle.phrase.proofs.lay_refused.Statement.{statement}
+use Rattle.phrase.proofs.lay_refused.Tie as tie
 
 returns : tie.Need-returns
 unfolding refusedLine

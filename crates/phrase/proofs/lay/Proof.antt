@@ -1,4 +1,4 @@
--- `wording::lay` meets its contract. The loop's invariant: the first `i` bytes of the text are laid, and nothing else.
+-- `phrase::lay` meets its contract. The loop's invariant: the first `i` bytes of the text are laid, and nothing else.
 use mathlib.Core.Path.{_≡_, refl, sym, _∙_}
 use Prim.Native.Nat.{_-_, _≤_}
 use native.Mathlib.Omega.{arith}
@@ -6,8 +6,8 @@ use lib.ListN.{length, take, length-set}
 use lib.Seq.{take-all}
 use denote.Ref.{now}
 use Rattle.laws.specs.Splice.{splice, splice-none, copy-step}
-use Rattle.wording.proofs.lay.Statement.{statement}
-use Rattle.wording.proofs.lay.Tie as tie
+use Rattle.phrase.proofs.lay.Statement.{statement}
+use Rattle.phrase.proofs.lay.Tie as tie
 
 abbrev Inv-loop : tie.InvT-loop
 Inv-loop d₀ at t i₀ d i = (i ≤ length t) × (d ≡ splice d₀ at (take i t)) × (length d ≡ length d₀)

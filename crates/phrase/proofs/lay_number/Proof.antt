@@ -1,12 +1,12 @@
--- `wording::lay_number` meets its contract: the text and the digits stand side by side, so they are one lay.
+-- `phrase::lay_number` meets its contract: the text and the digits stand side by side, so they are one lay.
 use native.Mathlib.Omega.{arith}
 use borrow.Author.Needs.{needs}
 use denote.Ref.{now}
 use Rattle.decimal.specs.Digits.{digitsOf}
 use Rattle.decimal.proofs.DigitLaws.{digits-most}
-use Rattle.wording.proofs.LayLaws.{laid-then}
-use Rattle.wording.proofs.lay_number.Statement.{statement}
-use Rattle.wording.proofs.lay_number.Tie as tie
+use Rattle.phrase.proofs.LayLaws.{laid-then}
+use Rattle.phrase.proofs.lay_number.Statement.{statement}
+use Rattle.phrase.proofs.lay_number.Tie as tie
 
 lay-requires : tie.Need-lay-requires
 lay-requires c κs = omega arith

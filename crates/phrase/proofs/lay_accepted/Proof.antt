@@ -1,13 +1,13 @@
--- `wording::lay_accepted` meets its contract: each text with its number stands behind the last, so they are one lay.
+-- `phrase::lay_accepted` meets its contract: each text with its number stands behind the last, so they are one lay.
 use native.Mathlib.Nat.{zero-add}
 use mathlib.Core.Path.{_∙_}
 use native.Mathlib.Omega.{arith}
 use borrow.Author.Needs.{needs}
 use denote.Ref.{now}
-use Rattle.wording.specs.Line.{acceptedLine}
-use Rattle.wording.proofs.LayLaws.{laid-five}
-use Rattle.wording.proofs.lay_accepted.Statement.{statement}
-use Rattle.wording.proofs.lay_accepted.Tie as tie
+use Rattle.phrase.specs.Phrases.{acceptedLine}
+use Rattle.phrase.proofs.LayLaws.{laid-five}
+use Rattle.phrase.proofs.lay_accepted.Statement.{statement}
+use Rattle.phrase.proofs.lay_accepted.Tie as tie
 
 returns : tie.Need-returns
 unfolding acceptedLine

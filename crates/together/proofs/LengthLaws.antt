@@ -8,7 +8,7 @@ use borrow.Author.Tests.{le-leb, lt-leb}
 use lib.Dec.{leb}
 use lib.ListN.{length}
 use Rattle.thirteen.specs.Batch.{Batch, fileIn}
-use Rattle.wording.specs.Line.{lengthsFrom, bytesTogether}
+use Rattle.together.specs.Lengths.{lengthsFrom, bytesTogether}
 
 -- one file and the others
 lengths-next : (b : Batch) (file : ℕ) → file < 14 → lengthsFrom b file (14 - file) ≡ length (fileIn b file) + lengthsFrom b (file + 1) (14 - (file + 1))

@@ -1,4 +1,4 @@
--- `naming::named_in` meets its contract. The loop's invariant: what is counted from the record at `at` on is what is counted in all.
+-- `byname::named_in` meets its contract. The loop's invariant: what is counted from the record at `at` on is what is counted in all.
 use mathlib.Core.Path.{_≡_, refl, sym, ap, _∙_}
 use mathlib.Core.List.{List}
 use Prim.Native.Nat.{ℕ, _-_, _≤_}
@@ -16,10 +16,10 @@ use Rattle.keys.specs.KeyFiles.{PlaceIn}
 use Rattle.rules.specs.Texts.{texts, Kinded}
 use Rattle.amiss.proofs.RecordLaws.{number-part, number-text}
 use Rattle.coded.proofs.LeftLaws.{left-here, left-kinded}
-use Rattle.naming.specs.Counting.{countOn}
-use Rattle.naming.proofs.NameLaws.{stop-key, count-here, count-other, count-end}
-use Rattle.naming.proofs.named_in.Statement.{statement}
-use Rattle.naming.proofs.named_in.Tie as tie
+use Rattle.byname.specs.Counting.{countOn}
+use Rattle.byname.proofs.CountLaws.{stop-key, count-here, count-other, count-end}
+use Rattle.byname.proofs.named_in.Statement.{statement}
+use Rattle.byname.proofs.named_in.Tie as tie
 
 abbrev Inv-loop : tie.InvT-loop
 Inv-loop f2 order ways class town part place places₀ found₀ first₀ at₀ places found first at =

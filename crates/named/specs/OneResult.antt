@@ -12,8 +12,8 @@ use Rattle.file.specs.declared.Refusal.{Refusal}
 use Rattle.fault.specs.Answers.{numberedFault}
 use Rattle.fault.specs.OneResult.{caseOf, case-told, fault-no-values}
 use Rattle.fault.specs.declared.Fault.{Fault}
-use Rattle.naming.specs.declared.Named.{Named}
-use Rattle.naming.specs.Names.{numberedNamed}
+use Rattle.named.specs.declared.Named.{Named}
+use Rattle.named.specs.Names.{numberedNamed}
 
 -- a file's own refusal isn't 23, and no fault is
 refusal-other : (r : Refusal) → eqb (numbered r .number) 23 ≡ false

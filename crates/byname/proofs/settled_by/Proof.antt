@@ -1,9 +1,9 @@
--- `naming::settled_by` meets its contract: none, one, or several.
+-- `byname::settled_by` meets its contract: none, one, or several.
 use Rattle.laws.specs.Tests.{tests}
-use Rattle.naming.specs.Names.{numberedNamed}
-use Rattle.naming.specs.Counting.{settledBy}
-use Rattle.naming.proofs.settled_by.Statement.{statement}
-use Rattle.naming.proofs.settled_by.Tie as tie
+use Rattle.named.specs.Names.{numberedNamed}
+use Rattle.byname.specs.Counting.{settledBy}
+use Rattle.byname.proofs.settled_by.Statement.{statement}
+use Rattle.byname.proofs.settled_by.Tie as tie
 
 returns : tie.Need-returns
 unfolding numberedNamed settledBy

@@ -1,4 +1,4 @@
--- `naming::same_text` meets its contract. The loop's invariant: what is left of the texts is the same just if the whole is.
+-- `named::same_text` meets its contract. The loop's invariant: what is left of the texts is the same just if the whole is.
 use mathlib.Core.Path.{_≡_, refl, _∙_}
 use mathlib.Core.List.{List}
 use Prim.Native.Nat.{ℕ, _-_}
@@ -6,9 +6,9 @@ use native.Mathlib.Omega.{arith}
 use lib.ListN.{length, drop}
 use denote.Ref.{now}
 use Rattle.keys.specs.Keys.{same}
-use Rattle.naming.proofs.NameLaws.{same-long, same-other, same-next, same-end}
-use Rattle.naming.proofs.same_text.Statement.{statement}
-use Rattle.naming.proofs.same_text.Tie as tie
+use Rattle.named.proofs.NameLaws.{same-long, same-other, same-next, same-end}
+use Rattle.named.proofs.same_text.Statement.{statement}
+use Rattle.named.proofs.same_text.Tie as tie
 
 abbrev Inv-loop : tie.InvT-loop
 Inv-loop a b i₀ i = (length a ≡ length b) × (same (drop i a) (drop i b) ≡ same a b)

@@ -1,4 +1,4 @@
--- `naming::is_named` meets its contract: the three texts of the record that was cut, compared one by one.
+-- `named::is_named` meets its contract: the three texts of the record that was cut, compared one by one.
 use mathlib.Core.Path.{_≡_, _∙_}
 use mathlib.Core.Bool.{true}
 use mathlib.Core.List.{[]}
@@ -10,10 +10,10 @@ use denote.Ref.{now}
 use Rattle.file.specs.Files.{fieldsOf, fieldCounts}
 use Rattle.keys.specs.Keys.{same}
 use Rattle.rules.specs.Texts.{texts}
-use Rattle.naming.specs.Names.{isNamed}
-use Rattle.naming.proofs.NameLaws.{part-same}
-use Rattle.naming.proofs.is_named.Statement.{statement}
-use Rattle.naming.proofs.is_named.Tie as tie
+use Rattle.named.specs.Names.{isNamed}
+use Rattle.named.proofs.NameLaws.{part-same}
+use Rattle.named.proofs.is_named.Statement.{statement}
+use Rattle.named.proofs.is_named.Tie as tie
 
 part-requires : tie.Need-part-requires
 unfolding fieldsOf fieldCounts

@@ -6,7 +6,7 @@ use Rattle.laws.specs.Tests.{pick}
 use Rattle.laws.specs.Numbered.{Numbered, answered, refused}
 use Rattle.file.specs.Format.{Text, Fields}
 use Rattle.link.specs.Met.{number}
-use Rattle.naming.specs.Names.{isNamed, several}
+use Rattle.named.specs.Names.{isNamed, several}
 
 -- where `found` have been seen, the first of them with this number
 unfoldable pub settledBy : ℕ → ℕ → Numbered

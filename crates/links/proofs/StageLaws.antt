@@ -38,53 +38,6 @@ use Rattle.amiss.specs.Sound.{SoundFiles, OfKind, StopsMet, Known, Record, Used
 use Rattle.amiss.proofs.SoundLaws.{sound-kinds}
 use Rattle.amiss.proofs.RecordLaws.{cut-kinded, later}
 
--- The fields of a record from f on, of n in all.
-module _ (b : Batch) (file : ℕ) (r : Fields) (f n : ℕ) where
-  -- nothing is wrong with field f
-  pub amiss-turn : f ≤ n → amiss b file r f ≡ 0 → firstAmiss b file r f (n + 1 - f) ≡ firstAmiss b file r (f + 1) (n + 1 - (f + 1))
-  unfolding firstAmiss
-  amiss-turn h e =
-      let z : n + 1 - f ≡ suc (n + 1 - (f + 1)) = omega arith in
-      rw (z, eq-eqb (amiss b file r f) 0 e)
-
-  -- something is
-  pub amiss-hit : f ≤ n → (amiss b file r f ≡ 0 → ⊥) → firstAmiss b file r f (n + 1 - f) ≡ f
-  unfolding firstAmiss
-  amiss-hit h e =
-      let z : n + 1 - f ≡ suc (n + 1 - (f + 1)) = omega arith in
-      rw (z, ne-eqb (amiss b file r f) 0 e)
-
-  -- none are left
-  pub amiss-done : n < f → firstAmiss b file r f (n + 1 - f) ≡ 0
-  unfolding firstAmiss
-  amiss-done h = let z : n + 1 - f ≡ 0 = omega arith in rw z
-
--- nothing is wrong with fields that have no link, so they may be left out
-module _ (b : Batch) (file : ℕ) (r : Fields) where
-  free-zero : (f : ℕ) → linksIn file < f → amiss b file r f ≡ 0
-  free-zero f h = sym (free-amiss b file f r (sym (free-behind file f h)))
-
-  none-amiss : (f more : ℕ) → linksIn file < f → firstAmiss b file r f more ≡ 0
-  unfolding firstAmiss
-  none-amiss f zero h = refl
-  none-amiss f (suc more) h = rw (eq-eqb (amiss b file r f) 0 (free-zero f h)) (none-amiss (f + 1) more (omega arith))
-
-  fewer-amiss : (f count more : ℕ) → linksIn file < f + count → firstAmiss b file r f (count + more) ≡ firstAmiss b file r f count
-  unfolding firstAmiss
-  fewer-amiss f zero more h = let e : 0 + more ≡ more = omega arith in rw e (none-amiss f more (omega arith))
-  fewer-amiss f (suc count) more h =
-      let e : suc count + more ≡ suc (count + more) = omega arith in
-      rw (e, fewer-amiss (f + 1) count more (omega arith))
-
--- all fields of a record that was cut are left at first; those that have no link behind the last that has one don't count
-pub amiss-start : (b : Batch) (file : ℕ) (s places : List ℕ) (n : ℕ) → n ≡ linksIn file
-    → firstAmiss b file (texts file s places) 1 (n + 1 - 1) ≡ fieldAmiss b file (texts file s places)
-amiss-start b file s places n e =
-    let r = texts file s places in
-    let z : n + 1 - 1 ≡ n = omega arith in
-    let l : n + (length r - n) ≡ length r = omega (arith, cut-size (fieldsOf file) s places, links-few file) in
-    rw (z, ← l) (sym (fewer-amiss b file r 1 n (length r - n) (omega arith)))
-
 -- what is wrong with a field is 8 or 9
 pub amiss-nine : (b : Batch) (file : ℕ) (r : Fields) (f : ℕ) → (amiss b file r f ≡ 0 → ⊥) → (amiss b file r f ≡ 8 → ⊥) → amiss b file r f ≡ 9
 unfolding amiss
@@ -94,17 +47,6 @@ amiss-nine b file r f = go (met b (linkOf file f) f r) (signFits b file (linkOf 
     go true true p q = absurd (p refl)
     go true false p q = refl
     go false s p q = absurd (q refl)
-
--- no file has more than thirteen fields in a record
-few : ℕ → Bool
-few k = leb (fieldsOf k) 13
-
-pub fields-few : (file : ℕ) → fieldsOf file ≤ 13
-unfolding few fieldsOf fieldCounts
-fields-few file =
-    either (ltb file 14)
-    (λ e. leb→le (fieldsOf file) 13 (below 14 few tt file (ltb-true file 14 e)))
-    (λ e. let z : fieldsOf file ≡ 0 = List·getD-eq-default (0 ∷ fieldCounts) 0 (ltb-false file 14 e) in omega arith)
 
 -- Files 11-13 have no keys, and there are none behind them.
 no-fields : (file : ℕ) → 10 < file → keyFields file ≡ []

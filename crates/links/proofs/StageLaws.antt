@@ -37,6 +37,8 @@ use Rattle.thirteen.specs.Batch.{Batch, fileIn, overFiles}
 use Rattle.amiss.specs.Sound.{SoundFiles, OfKind, StopsMet, Known, Record, UsedAsked, Used}
 use Rattle.amiss.proofs.SoundLaws.{sound-kinds}
 use Rattle.amiss.proofs.RecordLaws.{cut-kinded, later}
+use Rattle.recall.proofs.FieldLaws.{fields-few}
+use Rattle.recall.proofs.RecallLaws.{zeros}
 
 -- what is wrong with a field is 8 or 9
 pub amiss-nine : (b : Batch) (file : ℕ) (r : Fields) (f : ℕ) → (amiss b file r f ≡ 0 → ⊥) → (amiss b file r f ≡ 8 → ⊥) → amiss b file r f ≡ 9
@@ -94,6 +96,13 @@ module _ (file : ℕ) (s : List ℕ) (at : ℕ) (order ways : List ℕ) (q : Use
     -- what is found is the answer
     pub used-found : (r : Bool) → ((p : PlaceIn file s at) → r ≡ has file (keyOf file (recordAt file s at)) (p .past)) → Used file s at r
     used-found r e p = e p ∙ sym (key-used file (p .past) (recordAt file s at) (q .low, h))
+
+  -- none is where all are different, or where there are none
+  pub used-none : (file ≤ 10 → apart (howOf ways file) ≡ true) → Used file s at false
+  used-none a =
+      either (ltb 10 file)
+      (λ t. used-keyless (ltb-true 10 file t))
+      (λ t. let h = ltb-false 10 file t in used-apart h (a h))
 
 -- Where a file's records were gone through up to `at`, the first of the rest being record k: the first fault of the rest is the file's.
 pub record Left (b : Batch) (file : ℕ) (s : List ℕ) (at k : ℕ) : Type 0 where
@@ -240,12 +249,6 @@ pub onward-known : (b : Batch) (file : ℕ) (order ways last class new : List �
     → Known b file order ways new class
 onward-known b file order ways last class new o f k t l =
     record { sound = f; looks = record { size = k .size; routes = k .routes; lasts = l }; table = t; stops = λ e. stops-met b (o .stops (omega arith)) }
-
--- zeros and nothing else
-zeros : (n i : ℕ) → getD {A = ℕ} (replicate n 0) i 0 ≡ 0
-zeros zero i = refl
-zeros (suc n) zero = refl
-zeros (suc n) (suc i) = zeros n i
 
 -- Before any search, the place that is remembered for each file is its start.
 pub lasts-start : (b : Batch) → SoundFiles b → Lasts b (replicate 11 0)

@@ -29,8 +29,8 @@ ghost use Rattle.lookup.specs.Ways.{Lasts};
 ghost use Rattle.thirteen.specs.Batch.{thirteen, recordsOf};
 ghost use Rattle.amiss.specs.Sound.{Known, Record, OfKind};
 
-// The number in field f.
-fn number_of(file: u64, s: &[u8], places: &[usize; 14], f: u64) -> u64
+// inner: the number in field f
+pub fn number_of(file: u64, s: &[u8], places: &[usize; 14], f: u64) -> u64
     requires { ⌜ Kinded file (now s) (now places) × NumberAt file f ⌝ }
     ensures { λ r. ⌜ (r ≡ value (field f (texts file (now (s .entry)) (now (places .entry))))) × (r < none) ⌝ }
 {

@@ -1,8 +1,8 @@
 // A trip's records one after another, by their numbers, and a record of one file by its key: each goes the way that was made out for its file.
 use field::value_of;
-use find::next_of_trip;
 use find::with_one;
 use find::with_two;
+use following::next_of_trip;
 use lookup::index_of;
 use previous::previous_of_trip;
 use walk::Found;

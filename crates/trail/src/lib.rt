@@ -1,9 +1,9 @@
 // A trip's records one after another, by their numbers, and a record of one file by its key: each goes the way that was made out for its file.
 use field::value_of;
-use find::if_of_trip;
-use find::next_of_trip;
 use find::with_one;
 use find::with_two;
+use following::if_of_trip;
+use following::next_of_trip;
 use hinted::lower;
 use keys::Key;
 use keys::key_at;

@@ -1,4 +1,4 @@
--- `find::among_rising` meets its contract: the first record whose key isn't below k has it, or none does.
+-- `search::among_rising` meets its contract: the first record whose key isn't below k has it, or none does.
 use mathlib.Core.Path.{sym, _∙_}
 use native.Mathlib.Omega.{arith}
 use borrow.Author.Needs.{needs}
@@ -8,8 +8,8 @@ use Rattle.file.specs.Files.{fieldsOf}
 use Rattle.lines.proofs.OrderLaws.{from-place, from-rank, from-first, from-miss}
 use Rattle.keys.specs.Ranks.{rankOf, rankKey}
 use Rattle.keys.proofs.KeyFileLaws.{key-here}
-use Rattle.find.proofs.among_rising.Statement.{statement}
-use Rattle.find.proofs.among_rising.Tie as tie
+use Rattle.search.proofs.among_rising.Statement.{statement}
+use Rattle.search.proofs.among_rising.Tie as tie
 
 returns : tie.Need-returns
 returns c =

@@ -1,4 +1,4 @@
--- `find::by_index` meets its contract: the first entry whose key isn't below k has it, or none does.
+-- `search::by_index` meets its contract: the first entry whose key isn't below k has it, or none does.
 use mathlib.Core.Path.{sym, _∙_}
 use native.Mathlib.Omega.{arith}
 use borrow.Author.Needs.{needs}
@@ -8,8 +8,8 @@ use denote.Ref.{now}
 use Rattle.keys.specs.Ranks.{rankKey}
 use Rattle.keys.proofs.KeyFileLaws.{key-here}
 use Rattle.hinted.proofs.HintedLaws.{entry-place, lower-hit, lower-miss}
-use Rattle.find.proofs.by_index.Statement.{statement}
-use Rattle.find.proofs.by_index.Tie as tie
+use Rattle.search.proofs.by_index.Statement.{statement}
+use Rattle.search.proofs.by_index.Tie as tie
 
 returns : tie.Need-returns
 returns c =

@@ -1,13 +1,13 @@
--- `find::next_of_trip` meets its contract: from ten digits on there is no number.
+-- `following::next_of_trip` meets its contract: from ten digits on there is no number.
 use mathlib.Core.Path.{_≡_, sym}
 use native.Mathlib.Omega.{arith}
 use borrow.Author.Needs.{needs}
 use denote.Ref.{now}
 use Rattle.file.specs.Files.{fieldsOf}
 use Rattle.file.specs.Records.{recordsIn}
 use Rattle.find.proofs.TripLaws.{next-nothing, next-beyond}
-use Rattle.find.proofs.next_of_trip.Statement.{statement}
-use Rattle.find.proofs.next_of_trip.Tie as tie
+use Rattle.following.proofs.next_of_trip.Statement.{statement}
+use Rattle.following.proofs.next_of_trip.Tie as tie
 
 returns : tie.Need-returns
 returns c =

@@ -1,4 +1,4 @@
--- `find::next_by_search` meets its contract: of the records with the least number the first.
+-- `following::next_by_search` meets its contract: of the records with the least number the first.
 use mathlib.Core.Path.{sym, _∙_}
 use mathlib.Core.List.{[], _∷_}
 use Prim.Native.Nat.{_<_}
@@ -8,10 +8,10 @@ use denote.Ref.{now}
 use Rattle.file.specs.Files.{fieldsOf}
 use Rattle.file.specs.Records.{recordsIn}
 use Rattle.keys.specs.Keys.{none}
 use Rattle.find.proofs.FindLaws.{rank-three, small-three, by-key}
 use Rattle.find.proofs.TripLaws.{next-most, next-nothing, next-found}
-use Rattle.find.proofs.next_by_search.Statement.{statement}
-use Rattle.find.proofs.next_by_search.Tie as tie
+use Rattle.following.proofs.next_by_search.Statement.{statement}
+use Rattle.following.proofs.next_by_search.Tie as tie
 
 returns : tie.Need-returns
 returns c =

@@ -1,13 +1,13 @@
--- `find::next_below` meets its contract: each way finds the same.
+-- `following::next_below` meets its contract: each way finds the same.
 use mathlib.Core.Path.{_∙_}
 use borrow.Author.Needs.{needs}
 use denote.Ref.{now}
 use Rattle.file.specs.Files.{fieldsOf}
 use Rattle.lines.proofs.OrderLaws.{from-place}
 use Rattle.keys.specs.Ranks.{rankOf, rankKey}
 use Rattle.find.proofs.TripLaws.{rising-leads, leads-next}
-use Rattle.find.proofs.next_below.Statement.{statement}
-use Rattle.find.proofs.next_below.Tie as tie
+use Rattle.following.proofs.next_below.Statement.{statement}
+use Rattle.following.proofs.next_below.Tie as tie
 
 if-of-trip-requires : tie.Need-if-of-trip-requires
 if-of-trip-requires c κs =

@@ -1,4 +1,4 @@
--- `find::by_search` meets its contract. The loop's invariant: the first record with the key from the one at `at` on is the first of all.
+-- `search::by_search` meets its contract. The loop's invariant: the first record with the key from the one at `at` on is the first of all.
 use mathlib.Core.Path.{_≡_, refl, sym, _∙_}
 use Prim.Native.Nat.{_-_}
 use native.Mathlib.Omega.{arith}
@@ -13,8 +13,8 @@ use Rattle.lines.proofs.OrderLaws.{first-hit, first-turn, first-end}
 use Rattle.keys.specs.KeyFiles.{PlaceIn, recordsFrom}
 use Rattle.keys.specs.Ranks.{rankOf, rankKey}
 use Rattle.keys.proofs.KeyFileLaws.{key-here}
-use Rattle.find.proofs.by_search.Statement.{statement}
-use Rattle.find.proofs.by_search.Tie as tie
+use Rattle.search.proofs.by_search.Statement.{statement}
+use Rattle.search.proofs.by_search.Tie as tie
 
 abbrev Inv-loop : tie.InvT-loop
 Inv-loop file s k at₀ at =

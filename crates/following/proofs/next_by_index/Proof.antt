@@ -1,4 +1,4 @@
--- `find::next_by_index` meets its contract: the first entry from the trip's x on is the next record, or there is none.
+-- `following::next_by_index` meets its contract: the first entry from the trip's x on is the next record, or there is none.
 use mathlib.Core.Path.{sym, _∙_}
 use native.Mathlib.Omega.{arith}
 use borrow.Author.Needs.{needs}
@@ -6,9 +6,9 @@ use lib.ListN.{length, getD}
 use denote.Ref.{now}
 use Rattle.keys.specs.Ranks.{rankKey}
 use Rattle.hinted.proofs.HintedLaws.{entry-place}
 use Rattle.find.proofs.TripLaws.{trip-end, index-leads, index-leads-none, leads-next}
-use Rattle.find.proofs.next_by_index.Statement.{statement}
-use Rattle.find.proofs.next_by_index.Tie as tie
+use Rattle.following.proofs.next_by_index.Statement.{statement}
+use Rattle.following.proofs.next_by_index.Tie as tie
 
 returns : tie.Need-returns
 unfolding rankKey

@@ -1,12 +1,12 @@
--- `find::if_of_trip` meets its contract: the key's first two numbers are the trip's, or they are not.
+-- `following::if_of_trip` meets its contract: the key's first two numbers are the trip's, or they are not.
 use mathlib.Core.Path.{sym}
 use native.Mathlib.Omega.{arith}
 use borrow.Author.Needs.{needs}
 use denote.Ref.{now}
 use Rattle.keys.proofs.KeyFileLaws.{key-here}
 use Rattle.find.proofs.TripLaws.{trip-end, trip-here, trip-other}
-use Rattle.find.proofs.if_of_trip.Statement.{statement}
-use Rattle.find.proofs.if_of_trip.Tie as tie
+use Rattle.following.proofs.if_of_trip.Statement.{statement}
+use Rattle.following.proofs.if_of_trip.Tie as tie
 
 returns : tie.Need-returns
 returns c =

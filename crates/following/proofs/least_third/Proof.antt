@@ -1,4 +1,4 @@
--- `find::least_third` meets its contract. The loop's invariant: the lesser of `least` and the least number from the record at `at` on is that
+-- `following::least_third` meets its contract. The loop's invariant: the lesser of `least` and the least number from the record at `at` on is that
 -- of all.
 use Prim.Native.Nat.{_-_}
 use native.Mathlib.Omega.{arith}
@@ -6,9 +6,9 @@ use borrow.Author.Needs.{needs}
 use lib.ListN.{length}
 use denote.Ref.{now}
 use Rattle.keys.proofs.KeyFileLaws.{key-here}
 use Rattle.find.proofs.TripLaws.{Passing, pass-start, pass-next, pass-end}
-use Rattle.find.proofs.least_third.Statement.{statement}
-use Rattle.find.proofs.least_third.Tie as tie
+use Rattle.following.proofs.least_third.Statement.{statement}
+use Rattle.following.proofs.least_third.Tie as tie
 
 abbrev Inv-loop : tie.InvT-loop
 Inv-loop file s line trip x hi least₀ at₀ least at = Passing file line trip x s least at

@@ -1,5 +1,5 @@
 -- Where none of the files has a fault, no stage names one.
-use mathlib.Core.Path.{_≡_, refl, sym, ap, _∙_}
+use mathlib.Core.Path.{_≡_, refl}
 use mathlib.Core.List.{List, []}
 use Prim.Native.Nat.{ℕ, zero, suc, _+_, _≤_, _<_}
 use native.Mathlib.Omega.{arith}
@@ -7,8 +7,6 @@ use native.Mathlib.Decide.{ℕ-discrete}
 use lib.ListN.{length}
 use Rattle.laws.specs.Numbered.{Numbered, answered}
 use Rattle.file.specs.Files.{fieldCounts, fieldsOf, longest}
-use Rattle.file.specs.Reading.{reading}
-use Rattle.file.specs.Records.{recordsIn}
 use Rattle.field.specs.Stage.{fieldFault}
 use Rattle.fields.proofs.StageLaws.{fields-few}
 use Rattle.thirteen.specs.Batch.{Batch, fileIn, recordsOf, overFiles}

@@ -27,8 +27,8 @@ pub enum Checked {
     Broken(u64, u64),
 }
 
-// inner: the number of the first field of a cut record that isn't of its kind; 0 if all are.
-pub fn first_unkind(file: u64, s: &[u8], places: &[usize; 14], n: usize) -> u64
+// The number of the first field of a cut record that isn't of its kind; 0 if all are.
+fn first_unkind(file: u64, s: &[u8], places: &[usize; 14], n: usize) -> u64
     requires { ⌜ Parted n (now s) (now places) ⌝ }
     ensures { λ r. ⌜ r ≡ firstUnkind file 1 (cutRecord n (now (s .entry)) (now (places .entry))) ⌝ }
 {

@@ -33,8 +33,8 @@ pub fn stands(s: &[u8], at: usize, b: u8) -> bool
     false
 }
 
-// inner: where what follows a record's last field comes to: semicolon, CR, LF from this place on.
-pub fn record_end(s: &[u8], at: usize) -> Ahead
+// Where what follows a record's last field comes to: semicolon, CR, LF from this place on.
+fn record_end(s: &[u8], at: usize) -> Ahead
     ensures { λ r. ⌜ (r ≡ aheadFrom (now (s .entry)) true at) × EndsNear (now (s .entry)) at r ⌝ }
 {
     if !stands(s, at, b';') {

@@ -1,3 +1,3 @@
-pub mod ByteLaws
+pub mod TextLaws
 pub mod PlaceLaws
 pub mod SoundLaws

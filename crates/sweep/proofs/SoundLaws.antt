@@ -1,11 +1,9 @@
 -- A file is sound from a record on if the record was read, has no fault, and the file is sound behind it.
 use mathlib.Core.Path.{_≡_, refl, sym, ap, _∙_, subst}
 use mathlib.Core.Bool.{Bool, true}
-use mathlib.Core.List.{List, [], _∷_, _++_}
-use Prim.Native.Nat.{ℕ, _+_, _≤_, _<_}
-use native.Mathlib.Omega.{arith}
+use mathlib.Core.List.{List, _∷_, _++_}
+use Prim.Native.Nat.{ℕ, _+_, _≤_}
 use lib.ListN.{length, drop, drop-of-length-le}
-use Rattle.laws.specs.Numbered.{answered}
 use Rattle.file.specs.Files.{fieldsOf}
 use Rattle.file.specs.Format.{Fields, writtenRecord, written, Permitted}
 use Rattle.file.specs.Reading.{run, outcomeIn}
@@ -14,10 +12,10 @@ use Rattle.file.proofs.AnswerLaws.{file-fields}
 use Rattle.file.proofs.PlaceLaws.{read-count}
 use Rattle.file.proofs.RecordLaws.{written-records, legible}
 use Rattle.field.specs.Rules.{meets}
-use Rattle.field.specs.Stage.{firstUnkind, faultsFrom}
+use Rattle.field.specs.Stage.{firstUnkind}
 use Rattle.fields.proofs.StageLaws.{fault-none, fault-done}
 use Rattle.rules.specs.Texts.{Kinded}
-use Rattle.walk.specs.Walk.{LegalFrom, Parted, cutRecord}
+use Rattle.walk.specs.Walk.{Parted, cutRecord}
 use Rattle.walk.proofs.WalkLaws.{cut-size, none-left}
 use Rattle.sweep.specs.Sweep.{ReadTo, Fielded, SoundFrom}
 
@@ -35,7 +33,7 @@ sound-end file n s at h l =
     }
 
 -- a record that was read stands before the others
-module _ (file n : ℕ) (s : List ℕ) (at : ℕ) (places : List ℕ) (next : ℕ) (h : Fielded file n) (r : ReadTo n s at places next) where
+module _ (file n : ℕ) (s : List ℕ) (at : ℕ) (places : List ℕ) (next : ℕ) (h : Fielded file n) (r : ReadTo file n s at places next) where
   abbrev first : Fields
   first = cutRecord n s places
 
@@ -43,11 +41,11 @@ module _ (file n : ℕ) (s : List ℕ) (at : ℕ) (places : List ℕ) (next : �
   others = recordsIn n (drop next s)
 
   -- its rules may be asked, and what they say
-  pub kinded : firstUnkind file 1 first ≡ 0 → Kinded file s places
-  kinded k =
+  pub kinded : Kinded file s places
+  kinded =
       record {
         parted = subst (λ (m : ℕ). Parted m s places) (h .fields) (r .parted);
-        kinds = subst (λ (m : ℕ). firstUnkind file 1 (cutRecord m s places) ≡ 0) (h .fields) k;
+        kinds = subst (λ (m : ℕ). firstUnkind file 1 (cutRecord m s places) ≡ 0) (h .fields) (r .kinds);
       }
 
   pub meeting : (b : Bool) → b ≡ meets file (cutRecord (fieldsOf file) s places) → b ≡ meets file first
@@ -68,9 +66,9 @@ module _ (file n : ℕ) (s : List ℕ) (at : ℕ) (places : List ℕ) (next : �
     records : recordsIn n (drop at s) ≡ first ∷ others
     records = rw bytes (written-records n some (first ∷ others) permitted)
 
-    pub sound-step : firstUnkind file 1 first ≡ 0 → meets file first ≡ true → SoundFrom file n s at
-    sound-step k m =
+    pub sound-step : meets file first ≡ true → SoundFrom file n s at
+    sound-step m =
         record {
           legal = record { count = length (first ∷ others); reads = record { some = some; whole = rw bytes (read-count n some (first ∷ others) permitted) } };
-          fits = λ i. fault-none file i first others _ records 0 (sym k) refl m ∙ w .fits (i + 1);
+          fits = λ i. fault-none file i first others _ records 0 (sym (r .kinds)) refl m ∙ w .fits (i + 1);
         }

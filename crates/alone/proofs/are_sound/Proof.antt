@@ -1,14 +1,11 @@
 -- `alone::are_sound` meets its contract. The loop's invariant: each file behind `file` is sound.
-use mathlib.Core.Path.{_≡_, sym, _∙_}
-use Prim.Native.Nat.{ℕ, _-_, _≤_, _<_}
+use Prim.Native.Nat.{_-_, _≤_}
 use native.Mathlib.Omega.{arith}
-use native.Mathlib.Decide.{ℕ-discrete}
 use borrow.Author.Needs.{needs}
 use borrow.Author.Tests.{not-false}
 use denote.Ref.{now}
 use Rattle.laws.specs.Tests.{never}
-use Rattle.thirteen.specs.Batch.{Batch, thirteen, fileIn}
-use Rattle.alone.specs.Sound.{SoundFile}
+use Rattle.thirteen.specs.Batch.{Batch, thirteen}
 use Rattle.alone.proofs.SoundLaws.{SoundBehind, sound-more, fielded, sound-file}
 use Rattle.alone.proofs.are_sound.Statement.{statement}
 use Rattle.alone.proofs.are_sound.Tie as tie

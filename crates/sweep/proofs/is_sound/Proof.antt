@@ -26,23 +26,21 @@ read-on-requires c κs =
 
 meets-rules-requires : tie.Need-meets-rules-requires Inv-loop μ-loop
 meets-rules-requires c κs =
-    let e = c .before in
-    let q = e .before .before .before in
+    let q = c .before in
     let b = q .before .before .before .before .before .before .before .before in
-    kinded (b .args .file) (b .args .n) (now (b .args .s)) _ _ _ (b .pre) (q .before .read-on .ensures (q .if1 .left)) (sym (e .before .first-unkind .ensures) ∙ e .if2 .left)
+    kinded (b .args .file) (b .args .n) (now (b .args .s)) _ _ _ (b .pre) (q .before .read-on .ensures (q .if1 .left))
 
 loop-again : tie.Need-loop-again Inv-loop μ-loop
 loop-again c =
-    let e = c .before .before .before in
-    let q = e .before .before .before in
+    let q = c .before .before .before in
     let l = q .before .before .before .before .before in
     let b = l .before .before .before in
     let r = q .before .read-on .ensures (q .if1 .left) in
     let m = meeting (b .args .file) (b .args .n) (now (b .args .s)) _ _ _ (b .pre) r _ (c .before .meets-rules .ensures) in
-    (r .near, λ w. l .loop .inv .1 (sound-step (b .args .file) (b .args .n) (now (b .args .s)) _ _ _ (b .pre) r w (sym (e .before .first-unkind .ensures) ∙ e .if2 .left) (sym m ∙ not-false _ (c .if3 .left))))
+    (r .near, λ w. l .loop .inv .1 (sound-step (b .args .file) (b .args .n) (now (b .args .s)) _ _ _ (b .pre) r w (sym m ∙ not-false _ (c .if2 .left))))
 
-returns-4 : tie.Need-returns-4 Inv-loop μ-loop
-returns-4 c t =
+returns-3 : tie.Need-returns-3 Inv-loop μ-loop
+returns-3 c t =
     let l = c .before in
     let b = l .before .before .before in
     l .loop .inv .1 (sound-end (b .args .file) (b .args .n) (now (b .args .s)) (l .loop .at) (b .pre) (c .loop-test .left))
@@ -57,10 +55,8 @@ is-sound-spec =
     (λ c. (omega arith, λ w. w))  -- loop-holds
     read-on-requires
     (λ c t. never t)  -- returns
-    (λ c κs. c .before .before .read-on .ensures (c .before .if1 .left) .parted)  -- first-unkind-requires
-    (λ c t. never t)  -- returns-2
     meets-rules-requires
-    (λ c t. never t)  -- returns-3
-    (λ c. let q = c .before .before .before .before .before .before in let r = q .before .read-on .ensures (q .if1 .left) in omega (arith, r .far, r .near))  -- loop-less
+    (λ c t. never t)  -- returns-2
+    (λ c. let q = c .before .before .before in let r = q .before .read-on .ensures (q .if1 .left) in omega (arith, r .far, r .near))  -- loop-less
     loop-again
-    returns-4)
+    returns-3)

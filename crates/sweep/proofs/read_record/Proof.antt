@@ -1,71 +1,55 @@
--- `sweep::read_record` meets its contract. The loop's invariant: i fields were read, the next is due at `at`, and the places say where their
--- texts start and that of the next.
-use mathlib.Core.Path.{_≡_, refl, sym, ap, _∙_}
-use mathlib.Core.Bool.{false}
-use mathlib.Core.List.{[]}
-use Prim.Native.Nat.{ℕ, suc, _+_, _-_, _≤_, _<_}
+-- `sweep::read_record` meets its contract. The loop's invariant: f fields were read, the next is due at `at`, and the places say where their
+-- texts start and that of the next would.
+use mathlib.Core.Path.{_≡_, refl, sym, _∙_}
+use Prim.Native.Nat.{_+_, _-_, _≤_, _<_}
 use native.Mathlib.Omega.{arith}
 use borrow.Author.Needs.{needs}
 use borrow.Author.Tests.{not-false}
-use lib.ListN.{length, length-set}
+use lib.ListN.{length}
 use denote.Ref.{now}
-use Rattle.file.specs.Bytes.{comma}
-use Rattle.file.specs.Fields.{aheadFrom}
-use Rattle.file.specs.declared.Ahead.the-variants.{Field}
-use Rattle.file.proofs.FieldLaws.{matched-more, matched-done, from-field}
-use Rattle.sweep.proofs.PlaceLaws.{quoteAt, quote-first, quote-next, Come, come-first, come-next, come-last}
+use Rattle.walk.specs.Walk.{startOf}
+use Rattle.sweep.proofs.PlaceLaws.{Come, come-first, new-mark, come-next, come-all}
 use Rattle.sweep.proofs.read_record.Statement.{statement}
 use Rattle.sweep.proofs.read_record.Tie as tie
 
 abbrev Inv-loop : tie.InvT-loop
-Inv-loop s start n class places₀ at₀ i₀ places at i = (i < n) × (start ≤ at) × (at ≤ length s) × (at ≡ quoteAt s start i) × Come s start places i
+Inv-loop file s start n class places₀ at₀ f₀ places at f =
+    (f ≤ n) × (start ≤ at) × (at ≤ length s) × (startOf places f ≡ at + 1) × Come file n s start places f
 
 abbrev μ-loop : tie.MeasureT-loop
-μ-loop s start n class places₀ at₀ i₀ places at i = n - i
+μ-loop file s start n class places₀ at₀ f₀ places at f = n - f
 
 loop-holds : tie.Need-loop-holds Inv-loop μ-loop
 loop-holds c =
     let b = c .before .before in
-    (omega arith, omega arith, b .pre .0, quote-first (now (b .args .s)) (b .args .start), come-first (now (b .args .s)) (b .args .start) (now (b .args .places)) (b .pre .3))
+    let w = come-first (b .args .file) (b .args .n) (now (b .args .s)) (b .args .start) (now (b .args .places)) (b .pre .3) in
+    (omega arith, omega arith, b .pre .0, w .first, w)
 
--- the opening quote stands, so its place is within the file
-opened : (c : tie.Else1 Inv-loop μ-loop) → c .before .before .before .loop .at < length (now (c .before .before .before .before .before .before .args .s))
-opened c = c .before .stands .ensures .1 (not-false _ (c .if1 .left))
-
-opened-last : (c : tie.Else3 Inv-loop μ-loop) → c .before .before .before .loop .at < length (now (c .before .before .before .before .before .before .args .s))
-opened-last c = c .before .stands3 .ensures .1 (not-false _ (c .if3 .left))
-
--- and so does the comma
-parted : (c : tie.Else2 Inv-loop μ-loop) → c .before .before .text-close .result < length (now (c .before .before .before .before .before .before .before .before .before .args .s))
-parted c = c .before .stands2 .ensures .1 (not-false _ (c .if2 .left))
+-- what follows the field stands within the file
+within : (c : tie.Else2 Inv-loop μ-loop) → c .before .before .before .before .field-end .result < length (now (c .before .before .before .before .before .before .before .before .before .args .s))
+within c = c .before .stands .ensures .1 (not-false _ (c .if2 .left))
 
 loop-again : tie.Need-loop-again Inv-loop μ-loop
 loop-again c =
-    let q = c .before .before in
-    let e = q .before in
-    let p = e .before .before .before in
+    let o = c .before .before in
+    let e = o .before in
+    let q = e .before in
+    let p = q .before .before in
     let b = p .before .before .before in
     let s = now (b .args .s) in
     let l = p .loop in
-    let close = q .text-close .result in
-    let shut = q .text-close .ensures .place in
-    let h = sym (c .before .stands2 .ensures .0) ∙ not-false _ (c .if2 .left) in
-    let m = matched-more comma [] s close (close + 1) refl h ∙ ap suc (matched-done _) in
-    let opens = sym (e .before .stands .ensures .0) ∙ not-false _ (e .if1 .left) in
-    (omega arith, omega (arith, shut), omega (arith, parted c), quote-next s (b .args .start) (l .i) (l .at) close (l .inv .3) shut, come-next s (b .args .start) (l .places) (l .i) (l .inv .4) (omega (arith, b .pre .2)) (l .at) close (close + 1) (l .inv .3) (opened e) opens shut (from-field s false close m) (omega (arith, parted c)))
+    let close = q .field-end .result in
+    let h = q .field-end .ensures (e .if1 .left) in
+    let m = rw (o .follower-of .ensures) at (sym (c .before .stands .ensures .0) ∙ not-false _ (c .if2 .left)) in
+    let few : l .f < 13 = omega (arith, b .pre .2) in
+    (omega arith, omega (arith, h .far), omega (arith, within c), new-mark (b .args .file) (b .args .n) s (b .args .start) (l .places) (l .f) (l .inv .4) few (l .at) close (l .inv .3) h m ∙ omega arith, come-next (b .args .file) (b .args .n) s (b .args .start) (l .places) (l .f) (l .inv .4) few (l .at) close (l .inv .3) h m)
 
-returns-4 : tie.Need-returns-4 Inv-loop μ-loop
-returns-4 c some =
-    let q = c .before in
-    let e = q .before in
-    let p = e .before .before .before in
+returns-3 : tie.Need-returns-3 Inv-loop μ-loop
+returns-3 c some =
+    let p = c .before .before in
     let b = p .before .before .before in
-    let s = now (b .args .s) in
     let l = p .loop in
-    let z : l .i + 1 ≡ b .args .n = omega arith in
-    let opens = sym (e .before .stands3 .ensures .0) ∙ not-false _ (e .if3 .left) in
-    let r = c .next-record .ensures some in
-    rw z at (come-last s (b .args .start) (l .places) (l .i) (l .inv .4) (omega (arith, b .pre .2)) (l .at) (q .text-close2 .result) _ (l .inv .3) (opened-last e) opens (q .text-close2 .ensures .place) (r .ahead) (r .near) (l .inv .1))
+    come-all (b .args .file) (b .args .n) (now (b .args .s)) (b .args .start) (l .places) (l .f) (l .at) _ (l .inv .4) (omega arith) (b .pre .1) (b .pre .2) (l .inv .1) (l .inv .3) (c .line-end .ensures some)
 
 pub read-record-spec : {M : Type 1} → statement M
 read-record-spec =
@@ -76,30 +60,20 @@ read-record-spec =
     (λ c. omega arith)  -- add-places
     (λ c. omega arith)  -- slice-write-places
     loop-holds
-    (λ c. omega arith)  -- add-loop
-    (λ c κs. search needs)  -- stands-requires
+    (λ c. omega arith)  -- add-f
+    (λ c κs. c .before .before .before .before .pre .4)  -- field-end-requires
     (λ c. c .before .before .before .loop .inv .4 .room ∙ sym (c .before .before .before .before .before .before .pre .3))  -- same-length
     (λ c some. absurd (some refl))  -- returns
-    (λ c. omega (arith, opened c))  -- add-text-close
-    (λ c κs. (omega (arith, opened c), c .before .before .before .before .before .before .pre .4))  -- text-close-requires
-    (λ c κs. search needs)  -- stands-requires-2
+    (λ c κs. search needs)  -- follower-of-requires
+    (λ c κs. search needs)  -- stands-requires
     (λ c. c .before .before .before .before .before .before .loop .inv .4 .room ∙ sym (c .before .before .before .before .before .before .before .before .before .pre .3))  -- same-length-2
     (λ c some. absurd (some refl))  -- returns-2
-    (λ c. omega (arith, parted c))  -- add-at
-    (λ c. omega arith)  -- add-i
-    (λ c. omega (arith, parted c))  -- add-places-2
+    (λ c. omega (arith, within c))  -- add-at
+    (λ c. omega (arith, within c))  -- add-places-2
     (λ c. omega arith)  -- mul-places
     (λ c. omega (arith, c .before .before .before .before .before .before .loop .inv .4 .room))  -- slice-write-places-2
     (λ c. omega arith)  -- loop-less
     loop-again
-    (λ c κs. search needs)  -- stands-requires-3
-    (λ c. c .before .before .before .loop .inv .4 .room ∙ sym (c .before .before .before .before .before .before .pre .3))  -- same-length-3
-    (λ c some. absurd (some refl))  -- returns-3
-    (λ c. omega (arith, opened-last c))  -- add-text-close-2
-    (λ c κs. (omega (arith, opened-last c), c .before .before .before .before .before .before .pre .4))  -- text-close-requires-2
-    (λ c. omega (arith, c .text-close2 .ensures .near))  -- add-places-3
-    (λ c. omega arith)  -- mul-places-2
-    (λ c. omega (arith, c .before .before .before .before .loop .inv .4 .room))  -- slice-write-places-3
-    (λ c κs. search needs)  -- next-record-requires
-    (λ c. simp length-set (c .before .before .before .before .before .loop .inv .4 .room ∙ sym (c .before .before .before .before .before .before .before .before .pre .3)))  -- same-length-4
-    returns-4)
+    (λ c κs. search needs)  -- line-end-requires
+    (λ c. c .before .before .loop .inv .4 .room ∙ sym (c .before .before .before .before .before .pre .3))  -- same-length-3
+    returns-3)

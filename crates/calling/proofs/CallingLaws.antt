@@ -4,7 +4,7 @@ use mathlib.Core.Bool.{Bool, true}
 use mathlib.Core.List.{List, [], _∷_}
 use Prim.Native.Nat.{ℕ, _%_, _≤_, _<_}
 use native.Mathlib.Omega.{arith}
-use lib.Dec.{eqb}
+use lib.Dec.{eqb, leb}
 use lib.ListN.{length}
 use Rattle.laws.specs.Tests.{pick, either}
 use Rattle.file.specs.Files.{fieldsOf}
@@ -67,7 +67,7 @@ travelled-tame line trip rs k =
     (λ e. rw e (all-tame up a))
     (λ e. rw e (all-tame (backward up) (all-backward Tame up a)))
 
--- the pass stands at `at`; it was last at `near`
+-- the pass stands at `at`; `near` is the latest place where it was
 pub record Passing (s : List ℕ) (line trip near at : ℕ) (c : Track) (time len : ℕ) : Type 0 where
   pub place : PlaceIn 8 s at
   pub mine : at < length s → ofTrip 8 line trip (recordAt 8 s at) ≡ true
@@ -78,12 +78,12 @@ pub record Passing (s : List ℕ) (line trip near at : ℕ) (c : Track) (time le
 
 module _ (s order ways : List ℕ) (ready : Ready 8 s order ways) (line trip : ℕ) (l : line < none) (t : trip < none) where
   -- at the start
-  pub passing-start : (near at : ℕ) (c : Track) → PlaceIn 8 s near → c ≡ setOut → at ≡ firstPlace s line trip → Passing s line trip near at c 0 0
+  pub passing-start : (at : ℕ) (c : Track) → c ≡ setOut → at ≡ firstPlace s line trip → Passing s line trip at at c 0 0
   unfolding firstPlace
-  passing-start near at c p z e =
+  passing-start at c z e =
       let w = left-start 8 s order ways ready three-numbers line trip l t (goesUp trip) at e in
       let d = w .1 ∙ sym (travel-order line trip (recordsIn (fieldsOf 8) s)) in
-      record { place = w .0; mine = step-mine 8 s order ways ready three-numbers line trip l t (goesUp trip) (begin (goesUp trip)) at e; last = p; track = rw (z, d); times = rw d; lengths = rw d }
+      record { place = w .0; mine = step-mine 8 s order ways ready three-numbers line trip l t (goesUp trip) (begin (goesUp trip)) at e; last = w .0; track = rw (z, d); times = rw d; lengths = rw d }
 
   module _ (near at : ℕ) (c : Track) (time len : ℕ) (w : Passing s line trip near at c time len) where
     -- a record comes
@@ -94,14 +94,14 @@ module _ (s order ways : List ℕ) (ready : Ready 8 s order ways) (line trip : �
       onward-next = left-next 8 s order ways ready three-numbers line trip l t (goesUp trip) at h cut next e
 
       pub passing-next : (v : Visit) → v ≡ visitOf (texts 8 s places) → (k : Track) → k ≡ trackOn c v → (m : ℕ) → m ≡ timeOn time v
-          → (n : ℕ) → n ≡ lengthOn len v → Passing s line trip at next k m n
+          → (n : ℕ) → n ≡ lengthOn len v → (far : ℕ) → far ≡ pick (leb near at) at near → Passing s line trip far next k m n
       unfolding trackBehind timeBehind lengthBehind
-      passing-next v ve k ke m me n ne =
+      passing-next v ve k ke m me n ne far fe =
           let o = onward-next .1 in
           record {
             place = onward-next .0;
             mine = step-mine 8 s order ways ready three-numbers line trip l t (goesUp trip) (after (goesUp trip) (third 8 (texts 8 s places))) next e;
-            last = w .place;
+            last = rw fe (either (leb near at) (λ d. rw d (w .place)) (λ d. rw d (w .last)));
             track = rw (ke, ve) (rw o at (w .track));
             times = rw (me, ve) (rw o at (w .times));
             lengths = rw (ne, ve) (rw o at (w .lengths));

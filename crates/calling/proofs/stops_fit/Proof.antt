@@ -12,11 +12,11 @@ use Rattle.calling.proofs.stops_fit.Statement.{statement}
 use Rattle.calling.proofs.stops_fit.Tie as tie
 
 abbrev Inv-loop : tie.InvT-loop
-Inv-loop f8 order ways last line trip class up places₀ c₀ time₀ length₀ near₀ step₀ places c time length near step =
+Inv-loop f8 order ways last line trip class up places₀ c₀ time₀ length₀ step₀ near₀ places c time length step near =
     Passing f8 line trip near (step .at) c time length
 
 abbrev μ-loop : tie.MeasureT-loop
-μ-loop f8 order ways last line trip class up places₀ c₀ time₀ length₀ near₀ step₀ places c time length near step =
+μ-loop f8 order ways last line trip class up places₀ c₀ time₀ length₀ step₀ near₀ places c time length step near =
     list.length (leftAt 8 f8 (goesUp trip) line trip (step .at))
 
 loop-holds : tie.Need-loop-holds Inv-loop μ-loop
@@ -24,7 +24,7 @@ loop-holds c =
     let start = c .before .before .before .before .before in
     let a = start .args in
     let p = start .pre in
-    passing-start (now (a .f8)) (now (a .order)) (now (a .ways)) (p .0) (a .line) (a .trip) (p .2) (p .3) (a .last) _ _ (p .1) (c .before .set-out .ensures) (c .first-of .ensures)
+    passing-start (now (a .f8)) (now (a .order)) (now (a .ways)) (p .0) (a .line) (a .trip) (p .2) (p .3) _ _ (c .before .set-out .ensures) (c .first-of .ensures)
 
 -- from where a record is looked at: how the function began
 module _ (l : tie.At-loop Inv-loop μ-loop) where
@@ -51,7 +51,7 @@ visit-of-requires c κs =
 step-on-requires : tie.Need-step-on-requires Inv-loop μ-loop
 unfolding fieldsOf fieldCounts
 step-on-requires c κs =
-    let q = c .before .before .before .before .before .before in
+    let q = c .before .before .before .before .before .before .before in
     let l = q .before .before .before .before in
     let a = start l .args in
     let p = start l .pre in
@@ -60,7 +60,7 @@ step-on-requires c κs =
 loop-less : tie.Need-loop-less Inv-loop μ-loop
 unfolding fieldsOf fieldCounts
 loop-less c =
-    let q = c .before .before .before .before .before .before .before in
+    let q = c .before .before .before .before .before .before .before .before in
     let l = q .before .before .before .before in
     let w = l .loop in
     let a = start l .args in
@@ -71,7 +71,8 @@ loop-less c =
 loop-again : tie.Need-loop-again Inv-loop μ-loop
 unfolding fieldsOf fieldCounts
 loop-again c =
-    let k = c .before .before in
+    let f = c .before .before in
+    let k = f .before in
     let v = k .before .before .before in
     let q = v .before .before in
     let l = q .before .before .before .before in
@@ -80,7 +81,7 @@ loop-again c =
     let p = start l .pre in
     passing-next (now (a .f8)) (now (a .order)) (now (a .ways)) (p .0) (a .line) (a .trip) (p .2) (p .3) (w .near) (w .step .at) (w .c) (w .time) (w .length) (w .inv)
     (q .before .before .if1 .taken) (q .cut .ensures) _ (c .step-on .ensures) _ (v .visit-of .ensures) _ (k .before .before .track-on .ensures) _ (k .before .time-on .ensures)
-    _ (k .length-on .ensures)
+    _ (k .length-on .ensures) _ (f .later .ensures)
 
 returns : tie.Need-returns Inv-loop μ-loop
 returns c =
@@ -104,6 +105,7 @@ stops-fit-spec =
     (λ c κs. search needs)  -- track-on-requires
     (λ c κs. search needs)  -- time-on-requires
     (λ c κs. search needs)  -- length-on-requires
+    (λ c κs. search needs)  -- later-requires
     step-on-requires
     loop-less
     loop-again

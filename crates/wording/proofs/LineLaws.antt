@@ -15,7 +15,7 @@ use Rattle.fault.specs.OneResult.{fault-no-values}
 use Rattle.fault.specs.declared.Fault.{Fault}
 use Rattle.batch.specs.Order.{faultOf}
 use Rattle.batch.specs.Verdicts.{countsOf, verdictOf, numberedVerdict}
-use Rattle.batch.specs.declared.Counts.{Counts}
+use Rattle.counts.specs.declared.Counts.{Counts}
 use Rattle.batch.specs.declared.Verdict.{Verdict}
 use Rattle.phrase.specs.declared.Place.{Place}
 use Rattle.phrase.specs.Phrases.{acceptedLine, refusedLine}

@@ -1,9 +1,9 @@
--- `batch::timed_fault` meets its contract, case by case.
+-- `recordfaults::timed_fault` meets its contract, case by case.
 use borrow.Author.Needs.{needs}
 use Rattle.trips.specs.Answers.{numberedTimed}
 use Rattle.fault.specs.Answers.{numberedFault}
-use Rattle.batch.proofs.timed_fault.Statement.{statement}
-use Rattle.batch.proofs.timed_fault.Tie as tie
+use Rattle.recordfaults.proofs.timed_fault.Statement.{statement}
+use Rattle.recordfaults.proofs.timed_fault.Tie as tie
 
 returns : tie.Need-returns
 unfolding numberedFault numberedTimed

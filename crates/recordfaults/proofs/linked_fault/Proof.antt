@@ -1,9 +1,9 @@
--- `batch::linked_fault` meets its contract, case by case.
+-- `recordfaults::linked_fault` meets its contract, case by case.
 use borrow.Author.Needs.{needs}
 use Rattle.link.specs.Stage.{numberedLinked}
 use Rattle.fault.specs.Answers.{numberedFault}
-use Rattle.batch.proofs.linked_fault.Statement.{statement}
-use Rattle.batch.proofs.linked_fault.Tie as tie
+use Rattle.recordfaults.proofs.linked_fault.Statement.{statement}
+use Rattle.recordfaults.proofs.linked_fault.Tie as tie
 
 returns : tie.Need-returns
 unfolding numberedFault numberedLinked

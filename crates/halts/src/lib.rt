@@ -176,13 +176,7 @@ fn line_stop_has(
 }
 
 // Where the line's stop of a trip's stop stands, whose record was cut: it has its line and its tariff number.
-fn line_stop_of(
-    f8: &[u8],
-    places: &[usize; 14],
-    f7: &[u8],
-    order: &[u32],
-    ways: &[usize],
-) -> Found
+fn line_stop_of(f8: &[u8], places: &[usize; 14], f7: &[u8], order: &[u32], ways: &[usize]) -> Found
     requires { ⌜ Kinded tripStopsFile (now f8) (now places) × Ready 7 (now f7) (now order) (now ways) ⌝ }
     ensures { λ r. ⌜ StopSought (now (f7 .entry)) (texts tripStopsFile (now (f8 .entry)) (now (places .entry))) r ⌝ }
 {

@@ -1,5 +1,4 @@
 -- `halts::code_marks` meets its contract. The loop's invariant: what came and what is left of the codes are all of them.
-use mathlib.Core.Path.{_≡_}
 use Prim.Native.Nat.{ℕ, _+_, _-_, _≤_}
 use native.Mathlib.Omega.{arith}
 use borrow.Author.Needs.{needs}
@@ -49,8 +48,7 @@ loop-again : tie.Need-loop-again Inv-loop μ-loop
 loop-again c =
     let q = c .before in
     let l = q .before .before in
-    let a = start l .args in
-    (
+    let a = start l .args in (
       omega (arith, l .loop .inv .0),
       coming-next (sign l) (l .loop .i) (a .to) (cut l) _ _ (l .loop .inv .1) (q .before .loop-test .taken) _ (q .code-sign .ensures) _ (c .marked .ensures),
     )

@@ -1,6 +1,5 @@
 -- `halts::line_stop_of` meets its contract: it goes by the first and the third number of the record that was cut.
 use mathlib.Core.Path.{_≡_, sym, ap, _∙_}
-use mathlib.Core.List.{List, [], _∷_}
 use Prim.Native.Nat.{ℕ, _<_}
 use native.Mathlib.Omega.{arith}
 use denote.Ref.{now}

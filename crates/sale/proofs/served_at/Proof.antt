@@ -1,5 +1,4 @@
 -- `sale::served_at` meets its contract: the record is cut, and its times and signs are read of it.
-use native.Mathlib.Omega.{arith}
 use borrow.Author.Needs.{needs}
 use denote.Ref.{now}
 use Rattle.file.specs.Files.{fieldsOf, fieldCounts}

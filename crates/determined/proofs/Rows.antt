@@ -20,8 +20,9 @@ use Rattle.calls.specs.Numbers.{numberedStop}
 use Rattle.calls.specs.OneResult.{stop-one}
 use Rattle.sale.specs.Answers.{numberedSale, saleAnswer}
 use Rattle.sale.specs.OneResult.{sale-one}
-use Rattle.sales.specs.Sales.{numberedSales, salesAnswer, salesList}
-use Rattle.sales.specs.OneResult.{sales-one}
+use Rattle.asking.specs.Answers.{numberedSales}
+use Rattle.sales.specs.Sales.{salesAnswer, salesList}
+use Rattle.asking.specs.OneResult.{sales-one}
 use Rattle.named.specs.Names.{numberedNamed}
 use Rattle.naming.specs.Names.{nameAnswer}
 use Rattle.named.specs.OneResult.{named-one}

@@ -1,11 +1,11 @@
--- `sales::put_row` meets its contract: three stores side by side are one splice.
+-- `asking::put_row` meets its contract: three stores side by side are one splice.
 use native.Mathlib.Omega.{arith}
 use denote.Ref.{now}
 use lib.ListN.{length-set}
 use borrow.Author.Needs.{needs}
-use Rattle.sales.proofs.SalesLaws.{three-stores}
-use Rattle.sales.proofs.put_row.Statement.{statement}
-use Rattle.sales.proofs.put_row.Tie as tie
+use Rattle.asking.proofs.RowLaws.{three-stores}
+use Rattle.asking.proofs.put_row.Statement.{statement}
+use Rattle.asking.proofs.put_row.Tie as tie
 
 slice-write-list-2 : tie.Need-slice-write-list-2
 slice-write-list-2 c = simp length-set (omega arith)

@@ -8,8 +8,8 @@ use Rattle.laws.specs.Numbered.{Numbered}
 use Rattle.laws.specs.Settled.{OneToOne, told-back}
 use Rattle.laws.specs.Tests.{pick}
 use Rattle.fault.specs.OneResult.{caseOf, case-told, fault-no-values}
-use Rattle.sales.specs.declared.Sales.{Sales}
-use Rattle.sales.specs.Sales.{numberedSales}
+use Rattle.asking.specs.declared.Sales.{Sales}
+use Rattle.asking.specs.Answers.{numberedSales}
 
 -- the answer of this number, place and values
 salesBack : Numbered → Sales

@@ -1,4 +1,4 @@
--- `sales::answer_all` meets its contract. The loop's invariant speaks of what is left: the answers that are left, laid over the list as it is,
+-- `answering::answer_all` meets its contract. The loop's invariant speaks of what is left: the answers that are left, laid over the list as it is,
 -- give the list that is wanted.
 use mathlib.Core.Path.{_≡_, refl, _∙_}
 use mathlib.Core.List.{List}
@@ -9,10 +9,11 @@ use denote.Ref.{now}
 use Rattle.laws.specs.Splice.{splice}
 use Rattle.file.specs.Files.{fieldsOf}
 use Rattle.file.specs.Records.{recordsIn}
-use Rattle.sales.specs.Sales.{Ask, rows, questions, plainly}
-use Rattle.sales.proofs.SalesLaws.{questions-turn, laid-turn, laid-all}
-use Rattle.sales.proofs.answer_all.Statement.{statement}
-use Rattle.sales.proofs.answer_all.Tie as tie
+use Rattle.asking.specs.Rows.{Ask, rows, questions}
+use Rattle.answering.specs.Plainly.{plainly}
+use Rattle.asking.proofs.RowLaws.{questions-turn, laid-turn, laid-all}
+use Rattle.answering.proofs.answer_all.Statement.{statement}
+use Rattle.answering.proofs.answer_all.Tie as tie
 
 -- how a question is answered on these files
 abbrev asking : List ℕ → List ℕ → List ℕ → List ℕ → List ℕ → List ℕ → List ℕ → Ask

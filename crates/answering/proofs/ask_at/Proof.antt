@@ -1,10 +1,10 @@
--- `sales::ask_at` meets its contract: the seven numbers from place i on are asked, and the answer's three numbers taken.
+-- `answering::ask_at` meets its contract: the seven numbers from place i on are asked, and the answer's three numbers taken.
 use mathlib.Core.Path.{sym, ap, _∙_}
 use borrow.Author.Needs.{needs}
 use Rattle.laws.specs.Numbered.{Numbered}
-use Rattle.sales.specs.Sales.{row}
-use Rattle.sales.proofs.ask_at.Statement.{statement}
-use Rattle.sales.proofs.ask_at.Tie as tie
+use Rattle.asking.specs.Rows.{row}
+use Rattle.answering.proofs.ask_at.Statement.{statement}
+use Rattle.answering.proofs.ask_at.Tie as tie
 
 returns : tie.Need-returns
 returns c = ap (λ (a : Numbered). row a) (sym (c .before .sale-on .ensures)) ∙ c .row-of .ensures

@@ -69,7 +69,12 @@ module _ (file f : ℕ) (r : Fields) (t : ℕ) where
   nothing-tagged : t ≡ 0 → ((b : Batch) → 0 ≡ amiss b file r f) → Tagged file f r t
   unfolding fine
   nothing-tagged z e = record {
-    kind = 0; first = 0; number = 0; least = omega arith; small = omega arith; is = z;
+    kind = 0;
+    first = 0;
+    number = 0;
+    least = omega arith;
+    small = omega arith;
+    is = z;
     means = λ b. rw (← e b);
   }
 
@@ -80,21 +85,36 @@ module _ (file f : ℕ) (r : Fields) (t : ℕ) where
     pub line-tagged : Link.Line ≡ linkOf file f → t ≡ tag 5 0 (value (field f r)) → Tagged file f r t
     unfolding fine
     line-tagged e z = record {
-      kind = 5; first = 0; number = value (field f r); least = omega arith; small = v; is = z;
+      kind = 5;
+      first = 0;
+      number = value (field f r);
+      least = omega arith;
+      small = v;
+      is = z;
       means = λ b. one-means b 5 f (value (field f r)) r (amiss b file r f) refl (line-amiss b file f r e);
     }
 
     pub stop-tagged : Link.Stop ≡ linkOf file f → t ≡ tag 2 0 (value (field f r)) → Tagged file f r t
     unfolding fine
     stop-tagged e z = record {
-      kind = 2; first = 0; number = value (field f r); least = omega arith; small = v; is = z;
+      kind = 2;
+      first = 0;
+      number = value (field f r);
+      least = omega arith;
+      small = v;
+      is = z;
       means = λ b. one-means b 2 f (value (field f r)) r (amiss b file r f) refl (stop-amiss b file f r e);
     }
 
     pub carrier-tagged : Link.Carrier ≡ linkOf file f → t ≡ tag 4 0 (value (field f r)) → Tagged file f r t
     unfolding fine
     carrier-tagged e z = record {
-      kind = 4; first = 0; number = value (field f r); least = omega arith; small = v; is = z;
+      kind = 4;
+      first = 0;
+      number = value (field f r);
+      least = omega arith;
+      small = v;
+      is = z;
       means = λ b. one-means b 4 f (value (field f r)) r (amiss b file r f) refl (carrier-amiss b file f r e);
     }
 
@@ -102,14 +122,24 @@ module _ (file f : ℕ) (r : Fields) (t : ℕ) where
       pub trip-tagged : Link.Trip ≡ linkOf file f → f ≡ 2 → t ≡ tag 6 a (value (field f r)) → Tagged file f r t
       unfolding fine
       trip-tagged e h z = record {
-        kind = 6; first = a; number = value (field f r); least = l; small = v; is = z;
+        kind = 6;
+        first = a;
+        number = value (field f r);
+        least = l;
+        small = v;
+        is = z;
         means = λ b. two-means b 6 f (value (field f r)) r (amiss b file r f) refl a d (trip-amiss b file f r e h);
       }
 
       pub line-stop-tagged : Link.LineStop ≡ linkOf file f → f ≡ 3 → t ≡ tag 7 a (value (field f r)) → Tagged file f r t
       unfolding fine
       line-stop-tagged e h z = record {
-        kind = 7; first = a; number = value (field f r); least = l; small = v; is = z;
+        kind = 7;
+        first = a;
+        number = value (field f r);
+        least = l;
+        small = v;
+        is = z;
         means = λ b. two-means b 7 f (value (field f r)) r (amiss b file r f) refl a d (line-stop-amiss b file f r e h);
       }
 
@@ -117,7 +147,12 @@ module _ (file f : ℕ) (r : Fields) (t : ℕ) where
       pub seat-tagged : Link.TripOrZero ≡ linkOf file f → f ≡ 2 → (value (field f r) ≡ 0 → ⊥) → t ≡ tag 6 a (value (field f r)) → Tagged file f r t
       unfolding fine
       seat-tagged e h some z = record {
-        kind = 6; first = a; number = value (field f r); least = l; small = v; is = z;
+        kind = 6;
+        first = a;
+        number = value (field f r);
+        least = l;
+        small = v;
+        is = z;
         means = λ b. two-means b 6 f (value (field f r)) r (amiss b file r f) refl a d (seat-trip b file f r some h ∙ seat-amiss b file f r e);
       }
 
@@ -133,7 +168,12 @@ module _ (file f : ℕ) (r : Fields) (t : ℕ) where
         → Tagged file f r t
     unfolding fine
     code-tagged n g v s z = record {
-      kind = 3; first = file; number = value (field f r); least = omega arith; small = v; is = z;
+      kind = 3;
+      first = file;
+      number = value (field f r);
+      least = omega arith;
+      small = v;
+      is = z;
       means = λ b. alone-means b file f r e g (s b);
     }
 
@@ -160,6 +200,11 @@ module _ (r : Fields) (t : ℕ) (g : isEmpty (field 7 r) ≡ false) (v : value (
   pub pair-tagged : isEmpty (field 6 r) ≡ false → value (field 6 r) < none → t ≡ tag 8 (value (field 6 r)) (value (field 7 r)) → Tagged 8 7 r t
   unfolding fine sameSign
   pair-tagged h w z = record {
-    kind = 8; first = value (field 6 r); number = value (field 7 r); least = w; small = v; is = z;
+    kind = 8;
+    first = value (field 6 r);
+    number = value (field 7 r);
+    least = w;
+    small = v;
+    is = z;
     means = λ b. rw h at (code-means b 8 7 r second-code g);
   }

@@ -10,9 +10,9 @@ ghost use Rattle.field.specs.declared.Kind.{Kind};
 ghost use Rattle.sweep.specs.Sweep.{digitRun, TextTo, FieldTo, follower, LineTo, ReadTo, Fielded, SoundFrom};
 use field::Kind;
 use field::admits_text;
-use field::kind_of;
 use file::classes;
 use file::text_end;
+use kinds::kind_of;
 use reader::stands;
 use rules::meets_rules;
 

@@ -18,9 +18,10 @@
 
 enum { MOST_SIZES = 8, SPOJE = 6, ZASSPOJE = 8, SMALL = 2000000, FEW_DAMAGES = 3 };
 
-/* What is timed, on the sorted batch and on the shuffled one. LINKS is the check up to the first trip, whose kilometre is wrong then. */
+/* What is timed, on the sorted batch and on the shuffled one. ALONE is each file by itself, 1 to 6, and whether keys rise; LINKS is the check up to the first
+   trip, whose kilometre is wrong then. */
 enum what {
-    SCAN, FIELDS, LINKS, CHECK, SALE, SALES, STOP, ORDER, PLAIN_READ, PLAIN_FIELDS, PLAIN_LINKS, PLAIN_TRIPS, PLAIN_CHECK, PLAIN_SALE, PLAIN_SALES, PLAIN_STOP,
+    SCAN, ALONE, LINKS, CHECK, SALE, SALES, STOP, ORDER, PLAIN_READ, PLAIN_FIELDS, PLAIN_LINKS, PLAIN_TRIPS, PLAIN_CHECK, PLAIN_SALE, PLAIN_SALES, PLAIN_STOP,
     SQLITE, WHATS
 };
 
@@ -199,7 +200,7 @@ static void time_library(const struct size *size, struct side *side, int n)
     const struct questions *q = &size->questions;
     unsigned file;
     TIME(SCAN, for (file = 1; file <= BATCH_FILES; file++) sink = library_records(b, file).records);
-    TIME(FIELDS, sink = library_records(b, 1).records; for (file = 2; file <= BATCH_FILES; file++) sink = library_fields(b, file).number);
+    TIME(ALONE, sink = library_order_bare(b));
     *side->kilometre = '1';
     TIME(LINKS, sink = library_check(b).number);
     *side->kilometre = '0';
@@ -307,14 +308,14 @@ static void print_ratios(const struct size *sizes, int count)
 static void print_stages(const struct size *sizes, int count)
 {
     int i, side;
-    printf("\n| batch, ns for each byte | scan | fields and rules | keys, links, signs | trips, counts | plain C: scan | fields and rules | keys, links, signs | trips |\n");
+    printf("\n| batch, ns for each byte | the scan by itself | bytes, fields, rules, rising keys | hint, keys, links, signs | trips, counts | plain C: scan | fields and rules | keys, links, signs | trips |\n");
     printf("|---|---|---|---|---|---|---|---|---|\n");
     for (i = 0; i < count; i++)
         for (side = 0; side < 2; side++) {
             const double *m = sizes[i].sides[side].median;
             double each = (double)batch_length(&sizes[i].sides[side].batch) / 1e6;
             printf("| %.1f MB, %s | %.2f | %.2f | %.2f | %.2f | %.2f | %.2f | %.2f | %.2f |\n", each, side == 0 ? "sorted" : "shuffled", m[SCAN] / each,
-                   (m[FIELDS] - m[SCAN]) / each, (m[LINKS] - m[FIELDS]) / each, (m[CHECK] - m[LINKS]) / each, m[PLAIN_READ] / each, m[PLAIN_FIELDS] / each,
+                   m[ALONE] / each, (m[LINKS] - m[ALONE]) / each, (m[CHECK] - m[LINKS]) / each, m[PLAIN_READ] / each, m[PLAIN_FIELDS] / each,
                    m[PLAIN_LINKS] / each, m[PLAIN_TRIPS] / each);
         }
 }

@@ -12,7 +12,6 @@
 
 #ifdef BENCH_NATIVE
 slovdrim_records_answer *fill_records(slovdrim_records_answer *out, uint64_t file, PAIR) __asm__("slovdrim_records");
-slovdrim_fields_answer *fill_fields(slovdrim_fields_answer *out, uint64_t file, PAIR) __asm__("slovdrim_fields");
 slovdrim_check_answer *fill_check(slovdrim_check_answer *out, PAIRS) __asm__("slovdrim_check");
 slovdrim_check_answer *fill_check_hinted(slovdrim_check_answer *out, PAIRS, const uint32_t *, size_t) __asm__("slovdrim_check_hinted");
 slovdrim_sale_answer *fill_sale_hinted(slovdrim_sale_answer *out, PAIRS, const uint32_t *, size_t, const uint64_t *, size_t, uint64_t, uint64_t, uint64_t,
@@ -34,12 +33,6 @@ slovdrim_records_answer library_records(const struct batch *b, unsigned file)
 {
     slovdrim_records_answer a;
     ANSWER(records, file, OF(b, file));
-}
-
-slovdrim_fields_answer library_fields(const struct batch *b, unsigned file)
-{
-    slovdrim_fields_answer a;
-    ANSWER(fields, file, OF(b, file));
 }
 
 slovdrim_check_answer library_check_bare(const struct batch *b)
@@ -77,6 +70,12 @@ static slovdrim_order_answer order_into(const struct batch *b, uint32_t *list, s
 {
     slovdrim_order_answer a;
     ANSWER(order, ALL(b), list, count);
+}
+
+uint64_t library_order_bare(const struct batch *b)
+{
+    uint32_t none = 0;
+    return order_into(b, &none, 0).number;
 }
 
 void library_order(struct batch *b)

@@ -10,7 +10,6 @@
 #include "plain.h"
 
 slovdrim_records_answer library_records(const struct batch *b, unsigned file);
-slovdrim_fields_answer library_fields(const struct batch *b, unsigned file);
 
 /* The check without a hint. All other calls take the batch's own hint, which has no elements where keys rise. */
 slovdrim_check_answer library_check_bare(const struct batch *b);
@@ -22,5 +21,8 @@ slovdrim_stop_answer library_stop(const struct batch *b, const struct plain_text
 
 /* The batch's hint. */
 void library_order(struct batch *b);
+
+/* The hint's maker with no room: refusals 1 to 6, and whether keys rise; 22 where they don't. */
+uint64_t library_order_bare(const struct batch *b);
 
 #endif

@@ -41,8 +41,8 @@ fn line(year: u64)
     put(year, b' ');
     put(first, b' ');
     put(weekday(first), b' ');
-    put(calendar::dates::year_days(year), b' ');
-    put(calendar::weeks::weeks_in(year), b' ');
+    put(dates::year_days(year), b' ');
+    put(weeks::weeks_in(year), b' ');
     put(week(first), b' ');
     put(week(last), b'\n');
 }

@@ -70,7 +70,7 @@ module _ (b : Batch) (file : ℕ) (s : List ℕ) (e : s ≡ fileIn b file) where
         }
 
 -- a file whose reading has no fault is legal
-outcome-whole : (file n : ℕ) (s : List ℕ) → 1 ≤ n → (o : Outcome) → reading n s ≡ o → outcomeFault file o .number ≡ 0 → LegalFrom n s 0
+pub outcome-whole : (file n : ℕ) (s : List ℕ) → 1 ≤ n → (o : Outcome) → reading n s ≡ o → outcomeFault file o .number ≡ 0 → LegalFrom n s 0
 unfolding outcomeFault
 outcome-whole file n s h (Whole k) r e = legal-start n s k (record { some = h; whole = r })
 outcome-whole file n s h (Unfit at) r e = absurd (omega arith)

@@ -1,2 +1,3 @@
 pub mod OrderLaws
 pub mod FileLaws
+pub mod SoundLaws

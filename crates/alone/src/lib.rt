@@ -8,11 +8,15 @@ use file::Refusal;
 use file::classes;
 use file::fields_of;
 use reader::read;
+use sweep::is_sound;
 use thirteen::file_of;
 use walk::cut;
 use walk::part;
 ghost use mathlib.Core.Path.{_≡_};
+ghost use mathlib.Core.Bool.{true};
+ghost use mathlib.Core.List.{[]};
 ghost use lib.ListN.{take};
+ghost use Rattle.laws.specs.Numbered.{answered};
 ghost use Rattle.file.specs.Records.{recordsIn};
 ghost use Rattle.field.specs.Stage.{fieldFault};
 ghost use Rattle.fields.specs.Check.{numberedChecked};
@@ -20,6 +24,7 @@ ghost use Rattle.thirteen.specs.Batch.{thirteen, recordsOf, overFiles};
 ghost use Rattle.walk.specs.Walk.{LegalFrom};
 ghost use Rattle.fault.specs.Answers.{numberedFault};
 ghost use Rattle.alone.specs.Legal.{LegalFiles};
+ghost use Rattle.alone.specs.Sound.{RightVersion, SoundFiles};
 ghost use Rattle.alone.specs.Order.{lengthFault, bytesFault, isVersion, outcomeFault, versionFault, firstFault, fileStages};
 
 // The greatest length of a file.
@@ -199,8 +204,8 @@ fn check_bytes<'a>(
     first_unread(f1, f2, f3, f4, f5, f6, f7, f8, f9, f10, f11, f12, f13)
 }
 
-// inner: 1 to 6
-pub fn check_files<'a>(
+// 1 to 6, stage by stage.
+fn check_stages<'a>(
     f1: &'a [u8],
     f2: &'a [u8],
     f3: &'a [u8],
@@ -226,4 +231,98 @@ pub fn check_files<'a>(
         return second;
     }
     first_unsound(f1, f2, f3, f4, f5, f6, f7, f8, f9, f10, f11, f12, f13)
+}
+
+// Whether VerzeJDF has none of 1 to 4.
+fn is_right_version(s: &[u8]) -> bool
+    ensures { λ r. ⌜ (r ≡ true → RightVersion (now (s .entry))) ⌝ }
+{
+    if s.len() > LONGEST {
+        return false;
+    }
+    let fault = outcome_fault(1, read(s, 1));
+    if !is_none(fault) {
+        return false;
+    }
+    is_none(version_fault(s))
+}
+
+// Whether the files 2-13 have none of 1 to 6, each read once.
+fn are_sound<'a>(
+    f1: &'a [u8],
+    f2: &'a [u8],
+    f3: &'a [u8],
+    f4: &'a [u8],
+    f5: &'a [u8],
+    f6: &'a [u8],
+    f7: &'a [u8],
+    f8: &'a [u8],
+    f9: &'a [u8],
+    f10: &'a [u8],
+    f11: &'a [u8],
+    f12: &'a [u8],
+    f13: &'a [u8],
+) -> bool
+    ensures { λ r. ⌜ (r ≡ true → SoundFiles (thirteen (now (f1 .entry)) (now (f2 .entry)) (now (f3 .entry)) (now (f4 .entry)) (now (f5 .entry)) (now (f6 .entry)) (now (f7 .entry)) (now (f8 .entry)) (now (f9 .entry)) (now (f10 .entry)) (now (f11 .entry)) (now (f12 .entry)) (now (f13 .entry)))) ⌝ }
+{
+    let mut file: u64 = 13;
+    while file > 1 {
+        let s = file_of(file, f1, f2, f3, f4, f5, f6, f7, f8, f9, f10, f11, f12, f13);
+        if s.len() > LONGEST {
+            return false;
+        }
+        if !is_sound(file, s, fields_of(file)) {
+            return false;
+        }
+        file -= 1;
+    }
+    true
+}
+
+// Whether the files have none of 1 to 6. A file that has one may be read again, to name the first.
+fn all_sound<'a>(
+    f1: &'a [u8],
+    f2: &'a [u8],
+    f3: &'a [u8],
+    f4: &'a [u8],
+    f5: &'a [u8],
+    f6: &'a [u8],
+    f7: &'a [u8],
+    f8: &'a [u8],
+    f9: &'a [u8],
+    f10: &'a [u8],
+    f11: &'a [u8],
+    f12: &'a [u8],
+    f13: &'a [u8],
+) -> bool
+    ensures { λ r. ⌜ (r ≡ true → firstFault (fileStages (thirteen (now (f1 .entry)) (now (f2 .entry)) (now (f3 .entry)) (now (f4 .entry)) (now (f5 .entry)) (now (f6 .entry)) (now (f7 .entry)) (now (f8 .entry)) (now (f9 .entry)) (now (f10 .entry)) (now (f11 .entry)) (now (f12 .entry)) (now (f13 .entry)))) ≡ answered []) ⌝ }
+{
+    if !is_right_version(f1) {
+        return false;
+    }
+    are_sound(f1, f2, f3, f4, f5, f6, f7, f8, f9, f10, f11, f12, f13)
+}
+
+// inner: 1 to 6
+pub fn check_files<'a>(
+    f1: &'a [u8],
+    f2: &'a [u8],
+    f3: &'a [u8],
+    f4: &'a [u8],
+    f5: &'a [u8],
+    f6: &'a [u8],
+    f7: &'a [u8],
+    f8: &'a [u8],
+    f9: &'a [u8],
+    f10: &'a [u8],
+    f11: &'a [u8],
+    f12: &'a [u8],
+    f13: &'a [u8],
+) -> Fault
+    ensures { λ r. ⌜ numberedFault r ≡ firstFault (fileStages (thirteen (now (f1 .entry)) (now (f2 .entry)) (now (f3 .entry)) (now (f4 .entry)) (now (f5 .entry)) (now (f6 .entry)) (now (f7 .entry)) (now (f8 .entry)) (now (f9 .entry)) (now (f10 .entry)) (now (f11 .entry)) (now (f12 .entry)) (now (f13 .entry)))) ⌝ }
+{
+    if all_sound(f1, f2, f3, f4, f5, f6, f7, f8, f9, f10, f11, f12, f13) {
+        return Fault::None;
+    }
+    check_stages(f1, f2, f3, f4, f5, f6, f7, f8, f9, f10, f11, f12, f13)
 }

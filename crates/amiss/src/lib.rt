@@ -1,10 +1,10 @@
 // What is wrong with a field of a record that was cut: its link, and then its sign. Fields count from 1, and texts from 0.
 use field::value_of;
 use link::Link;
-use link::is_permitted;
-use link::link_of;
 use lookup::look_one;
 use lookup::look_two;
+use targets::is_permitted;
+use targets::link_of;
 use walk::Found;
 use walk::cut;
 use walk::part;
@@ -29,8 +29,8 @@ ghost use Rattle.lookup.specs.Ways.{Lasts};
 ghost use Rattle.thirteen.specs.Batch.{thirteen, recordsOf};
 ghost use Rattle.amiss.specs.Sound.{Known, Record, OfKind};
 
-// The number in field f.
-fn number_of(file: u64, s: &[u8], places: &[usize; 14], f: u64) -> u64
+// inner: the number in field f
+pub fn number_of(file: u64, s: &[u8], places: &[usize; 14], f: u64) -> u64
     requires { ⌜ Kinded file (now s) (now places) × NumberAt file f ⌝ }
     ensures { λ r. ⌜ (r ≡ value (field f (texts file (now (s .entry)) (now (places .entry))))) × (r < none) ⌝ }
 {

@@ -14,8 +14,9 @@ use Rattle.fault.specs.Answers.{numberedFault}
 use Rattle.fault.specs.declared.Fault.{Fault}
 use Rattle.alone.proofs.OrderLaws.{is-some, is-zero, none-zero}
 use Rattle.batch.specs.Order.{faultOf}
-use Rattle.batch.specs.Verdicts.{countsOf, verdictOf, numberedVerdict, Counted}
-use Rattle.batch.specs.declared.Counts.{Counts}
+use Rattle.counts.specs.Counted.{Counted}
+use Rattle.counts.specs.declared.Counts.{Counts}
+use Rattle.batch.specs.Verdicts.{countsOf, verdictOf, numberedVerdict}
 use Rattle.batch.specs.declared.Verdict.{Verdict}
 use Rattle.batch.proofs.AcceptedLaws.{standing}
 

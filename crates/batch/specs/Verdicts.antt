@@ -6,12 +6,9 @@ use lib.Dec.{eqb}
 use lib.ListN.{length}
 use Rattle.laws.specs.Tests.{pick}
 use Rattle.laws.specs.Numbered.{Numbered, answered}
-use Rattle.file.specs.Files.{fieldsOf}
-use Rattle.file.specs.Records.{recordsIn}
 use Rattle.thirteen.specs.Batch.{Batch, recordsOf}
 use Rattle.fault.specs.Answers.{numberedFault}
 use Rattle.batch.specs.Order.{faultOf}
-use Rattle.batch.specs.declared.Counts.{Counts}
 use Rattle.batch.specs.declared.Verdict.{Verdict}
 
 -- how many records the files 2, 5, 6 and 8 have: stops, lines, trips, trip stops
@@ -30,10 +27,3 @@ numberedVerdict (Verdict.Refused fault) = numberedFault fault
 -- the promise of the check
 abbrev pub VerdictIs : Batch → Verdict → Type 0
 VerdictIs b r = numberedVerdict r ≡ verdictOf b
-
--- the counts of four files by themselves
-pub record Counted (f2 f5 f6 f8 : List ℕ) (c : Counts) : Type 0 where
-  pub stops : c .stops ≡ length (recordsIn (fieldsOf 2) f2)
-  pub lines : c .lines ≡ length (recordsIn (fieldsOf 5) f5)
-  pub trips : c .trips ≡ length (recordsIn (fieldsOf 6) f6)
-  pub trip-stops : c .«trip_stops» ≡ length (recordsIn (fieldsOf 8) f8)

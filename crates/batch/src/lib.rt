@@ -1,13 +1,14 @@
 // The check of a batch in document 01's order: refusals 1 to 11, or accepted with the counts of files 2, 5, 6 and 8.
 use alone::check_files;
+use counts::Counts;
+use counts::counts_of;
 use fault::Fault;
 use fault::is_none;
 use file::classes;
-use hinted::count;
-use link::Linked;
 use links::links_fault;
 use lookup::survey;
-use trips::Timed;
+use recordfaults::linked_fault;
+use recordfaults::timed_fault;
 use trips::trips_fault;
 ghost use mathlib.Core.Path.{_≡_};
 ghost use mathlib.Core.List.{[]};
@@ -15,24 +16,13 @@ ghost use Prim.Native.Nat.{_≤_};
 ghost use lib.ListN.{length, drop};
 ghost use Rattle.laws.specs.Numbered.{answered};
 ghost use Rattle.file.specs.Reader.{Classes};
-ghost use Rattle.link.specs.Stage.{numberedLinked};
 ghost use Rattle.thirteen.specs.Batch.{thirteen};
 ghost use Rattle.lookup.specs.Ways.{Ways};
 ghost use Rattle.amiss.specs.Sound.{SoundFiles};
-ghost use Rattle.trips.specs.Answers.{numberedTimed};
-ghost use Rattle.keys.specs.KeyFiles.{KeyFile};
 ghost use Rattle.fault.specs.Answers.{numberedFault};
 ghost use Rattle.alone.specs.Order.{firstFault};
 ghost use Rattle.batch.specs.Order.{stages, faultOf};
-ghost use Rattle.batch.specs.Verdicts.{Counted, VerdictIs};
-
-// How many records the files 2, 5, 6 and 8 have.
-pub struct Counts {
-    pub stops: u64,
-    pub lines: u64,
-    pub trips: u64,
-    pub trip_stops: u64,
-}
+ghost use Rattle.batch.specs.Verdicts.{VerdictIs};
 
 // What the check of a batch comes to.
 pub enum Verdict {
@@ -40,29 +30,6 @@ pub enum Verdict {
     Accepted(Counts),
     // Its first fault.
     Refused(Fault),
-}
-
-// 7, 8 and 9, as a fault of the batch.
-fn linked_fault(l: Linked) -> Fault
-    ensures { λ r. ⌜ numberedFault r ≡ numberedLinked l ⌝ }
-{
-    match l {
-        Linked::Sound => Fault::None,
-        Linked::Used(file, k) => Fault::Used(file, k),
-        Linked::Dangling(file, k, f) => Fault::Dangling(file, k, f),
-        Linked::Misplaced(file, k, f) => Fault::Misplaced(file, k, f),
-    }
-}
-
-// 10 and 11, as a fault of the batch.
-fn timed_fault(t: Timed) -> Fault
-    ensures { λ r. ⌜ numberedFault r ≡ numberedTimed t ⌝ }
-{
-    match t {
-        Timed::Sound => Fault::None,
-        Timed::Days(k) => Fault::Days(k),
-        Timed::Stops(k) => Fault::Stops(k),
-    }
 }
 
 // 7 to 11.
@@ -172,23 +139,6 @@ pub fn check_with<'a>(
         ways,
         class,
     )
-}
-
-// How many records these files have: Zastavky, Linky, Spoje, Zasspoje.
-fn counts_of(f2: &[u8], f5: &[u8], f6: &[u8], f8: &[u8]) -> Counts
-    requires { ⌜ KeyFile 2 (now f2) × KeyFile 5 (now f5) × KeyFile 6 (now f6) × KeyFile 8 (now f8) ⌝ }
-    ensures { λ r. ⌜ Counted (now (f2 .entry)) (now (f5 .entry)) (now (f6 .entry)) (now (f8 .entry)) r ⌝ }
-{
-    let stops = count(2, f2);
-    let lines = count(5, f5);
-    let trips = count(6, f6);
-    let trip_stops = count(8, f8);
-    Counts {
-        stops: stops as u64,
-        lines: lines as u64,
-        trips: trips as u64,
-        trip_stops: trip_stops as u64,
-    }
 }
 
 // The whole check. `order` is a hint and may hold anything: the promise doesn't mention it, and no answer depends on it.

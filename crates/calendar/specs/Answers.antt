@@ -16,9 +16,9 @@ use Rattle.calendar.specs.declared.Week.{Week}
 use Rattle.calendar.specs.declared.Week.the-variants.{Counted, NoWeek}
 use Rattle.calendar.specs.declared.Whether.{Whether}
 use Rattle.calendar.specs.declared.Whether.the-variants.{Yes, Not, NoDay}
-use Rattle.calendar.specs.Dates.{isDate, isDay, dayNumber, dayOf, monthOf, yearOf}
-use Rattle.calendar.specs.Weeks.{weekday, weekOf, oddWeek}
-use Rattle.calendar.specs.Signs.{isHoliday, signFits}
+use Rattle.dates.specs.Dates.{isDate, isDay, dayNumber, dayOf, monthOf, yearOf}
+use Rattle.weeks.specs.Weeks.{weekday, weekOf, oddWeek}
+use Rattle.signs.specs.Signs.{isHoliday, signFits}
 
 -- 1 for yes, 0 for no
 abbrev pub bit : Bool → ℕ

@@ -10,11 +10,11 @@ use native.Mathlib.Omega.{arith}
 use borrow.Author.Tests.{ltb-true, ltb-false, eqb-true, eqb-false, ne-eqb}
 use lib.Dec.{eqb, ltb}
 use Rattle.laws.specs.Tests.{pick, oneOf, either, clash}
-use Rattle.calendar.specs.Dates.{within, yearDays, isDate, yearsDays, dayNumber, yearOf, newYear, monthOf, dayOf, dateOf, numberOf, tomorrow}
-use Rattle.calendar.specs.Weeks.{weekday, thursdayOf, weekOf, weeksIn}
-use Rattle.calendar.specs.Signs.{isDaySign, isWorkday, isRestday, signFits}
-use Rattle.calendar.specs.Real.{within-true, real, real-is, number-day, year-least, year-most, month-next, month-least, year-low, year-high, new-year-before, next-year-after, month-low, month-high, month-before, next-month-after}
-use Rattle.calendar.specs.Turns.{in-month, month-end, year-end, by-tomorrow, not-the-last, new-year-is, year-of-number, month-of-number, day-of-number, thursdays-are, thursday-is, thursday-in, week-is, one-year, next-new-year}
+use Rattle.dates.specs.Dates.{within, yearDays, isDate, yearsDays, dayNumber, yearOf, newYear, monthOf, dayOf, dateOf, numberOf, tomorrow}
+use Rattle.weeks.specs.Weeks.{weekday, thursdayOf, weekOf, weeksIn}
+use Rattle.signs.specs.Signs.{isDaySign, isWorkday, isRestday, signFits}
+use Rattle.dates.specs.Real.{within-true, real, real-is, number-day, year-least, year-most, month-next, month-least, year-low, year-high, new-year-before, next-year-after, month-low, month-high, month-before, next-month-after}
+use Rattle.weeks.specs.Turns.{in-month, month-end, year-end, by-tomorrow, not-the-last, new-year-is, year-of-number, month-of-number, day-of-number, thursdays-are, thursday-is, thursday-in, week-is, one-year, next-new-year}
 
 -- THE DAY AFTER a real date has the next number, over the ends of months and years
 pub next-number : (d m y : ℕ) → isDate d m y ≡ true → numberOf (tomorrow d m y) ≡ dayNumber d m y + 1

@@ -1,9 +1,3 @@
-pub mod Dates
-pub mod Weeks
-pub mod Signs
 pub mod Answers
 pub mod Laws
 pub mod OneResult
-pub mod Counting
-pub mod Real
-pub mod Turns

@@ -1,10 +1,7 @@
 // The calendar (document 01, "Days"): dates, day numbers, weekdays, ISO weeks, holidays and day signs.
 // Here stand the public calls. Each takes any numbers and any list, and answers as its definition in specs/Answers.antt says:
-// a date that isn't real, and a day past 73048, are refusal 12. What is behind them is in the modules, for other crates to call.
-pub mod dates; // dates.rt: real dates, the number of a date, the year and month of a day
-pub mod weeks; // weeks.rt: weekdays and ISO weeks
-pub mod signs; // signs.rt: holidays, day signs, odd and even weeks, periods
-
+// a date that isn't real, and a day past 73048, are refusal 12. What is behind them
+// is in the crates `dates`, `weeks` and `signs`, for other crates to call.
 ghost use Rattle.calendar.specs.Answers.{DayIs, DateIs, WeekdayIs, WeekIs, HolidayIs, FitsIs};
 
 // A date's day number.

@@ -1,10 +1,10 @@
 -- The walk along a trip's Zasspoje records in travel order: what the pass has come to, and what is left, make up what it comes to in the end.
 use mathlib.Core.Path.{_≡_, refl, sym, ap, _∙_}
-use mathlib.Core.Bool.{Bool}
+use mathlib.Core.Bool.{Bool, true}
 use mathlib.Core.List.{List, [], _∷_}
 use Prim.Native.Nat.{ℕ, _%_, _≤_, _<_}
 use native.Mathlib.Omega.{arith}
-use lib.Dec.{eqb}
+use lib.Dec.{eqb, leb}
 use lib.ListN.{length}
 use Rattle.laws.specs.Tests.{pick, either}
 use Rattle.file.specs.Files.{fieldsOf}
@@ -16,19 +16,20 @@ use Rattle.walk.specs.Walk.{Cuts}
 use Rattle.rules.specs.Texts.{texts}
 use Rattle.keys.specs.Keys.{keyFields, keyTable, ofTrip, third, none}
 use Rattle.keys.specs.KeyFiles.{PlaceIn}
+use Rattle.keys.specs.Ranks.{recordAt}
 use Rattle.amiss.specs.Sound.{AllOfKind}
 use Rattle.trail.specs.Lists.{select, rising, backward, travel}
-use Rattle.trail.specs.Trail.{upward, after, stepOf, placeOf}
+use Rattle.trail.specs.Trail.{upward, begin, after, stepOf, placeOf}
 use Rattle.trail.proofs.ListLaws.{All, all-select, all-rising}
 use Rattle.trip.specs.Stops.{stopsFit}
-use Rattle.trip.specs.Track.{visitOf, setOut, trackOn, trackBehind, timeOn, timeBehind, shrunk, lengthOn, lengthBehind, courseEnds}
-use Rattle.trip.specs.declared.course.Track.{Track}
-use Rattle.trip.specs.declared.course.Visit.{Visit}
-use Rattle.trip.proofs.TrackLaws.{AllTame, kinds-tame, course-is-stops}
+use Rattle.course.specs.Track.{visitOf, setOut, trackOn, trackBehind, timeOn, timeBehind, shrunk, lengthOn, lengthBehind, courseEnds}
+use Rattle.course.specs.declared.Track.{Track}
+use Rattle.course.specs.declared.Visit.{Visit}
+use Rattle.course.proofs.TrackLaws.{AllTame, kinds-tame, course-is-stops}
 use Rattle.coded.specs.Ready.{Ready}
 use Rattle.calling.specs.Calling.{travelled, goesUp, firstPlace}
 use Rattle.coded.specs.Left.{leftAt}
-use Rattle.coded.proofs.LeftLaws.{all-backward, left-start, left-done, left-next}
+use Rattle.coded.proofs.LeftLaws.{all-backward, step-mine, left-start, left-done, left-next}
 
 -- Zasspoje's keys are three numbers
 pub three-numbers : length (keyFields 8) ≡ 3
@@ -66,22 +67,23 @@ travelled-tame line trip rs k =
     (λ e. rw e (all-tame up a))
     (λ e. rw e (all-tame (backward up) (all-backward Tame up a)))
 
--- the pass stands at `at`; it was last at `near`
-pub record Passing (s : List ℕ) (line trip near at : ℕ) (c : Track) (time length : ℕ) : Type 0 where
+-- the pass stands at `at`; `near` is the latest place where it was
+pub record Passing (s : List ℕ) (line trip near at : ℕ) (c : Track) (time len : ℕ) : Type 0 where
   pub place : PlaceIn 8 s at
+  pub mine : at < length s → ofTrip 8 line trip (recordAt 8 s at) ≡ true
   pub last : PlaceIn 8 s near
   pub track : trackBehind c (leftAt 8 s (goesUp trip) line trip at) ≡ trackBehind setOut (travelled line trip (recordsIn (fieldsOf 8) s))
   pub times : timeBehind time (leftAt 8 s (goesUp trip) line trip at) ≡ timeBehind 0 (travelled line trip (recordsIn (fieldsOf 8) s))
-  pub lengths : lengthBehind length (leftAt 8 s (goesUp trip) line trip at) ≡ lengthBehind 0 (travelled line trip (recordsIn (fieldsOf 8) s))
+  pub lengths : lengthBehind len (leftAt 8 s (goesUp trip) line trip at) ≡ lengthBehind 0 (travelled line trip (recordsIn (fieldsOf 8) s))
 
 module _ (s order ways : List ℕ) (ready : Ready 8 s order ways) (line trip : ℕ) (l : line < none) (t : trip < none) where
   -- at the start
-  pub passing-start : (near at : ℕ) (c : Track) → PlaceIn 8 s near → c ≡ setOut → at ≡ firstPlace s line trip → Passing s line trip near at c 0 0
+  pub passing-start : (at : ℕ) (c : Track) → c ≡ setOut → at ≡ firstPlace s line trip → Passing s line trip at at c 0 0
   unfolding firstPlace
-  passing-start near at c p z e =
+  passing-start at c z e =
       let w = left-start 8 s order ways ready three-numbers line trip l t (goesUp trip) at e in
       let d = w .1 ∙ sym (travel-order line trip (recordsIn (fieldsOf 8) s)) in
-      record { place = w .0; last = p; track = rw (z, d); times = rw d; lengths = rw d }
+      record { place = w .0; mine = step-mine 8 s order ways ready three-numbers line trip l t (goesUp trip) (begin (goesUp trip)) at e; last = w .0; track = rw (z, d); times = rw d; lengths = rw d }
 
   module _ (near at : ℕ) (c : Track) (time len : ℕ) (w : Passing s line trip near at c time len) where
     -- a record comes
@@ -92,13 +94,14 @@ module _ (s order ways : List ℕ) (ready : Ready 8 s order ways) (line trip : �
       onward-next = left-next 8 s order ways ready three-numbers line trip l t (goesUp trip) at h cut next e
 
       pub passing-next : (v : Visit) → v ≡ visitOf (texts 8 s places) → (k : Track) → k ≡ trackOn c v → (m : ℕ) → m ≡ timeOn time v
-          → (n : ℕ) → n ≡ lengthOn len v → Passing s line trip at next k m n
+          → (n : ℕ) → n ≡ lengthOn len v → (far : ℕ) → far ≡ pick (leb near at) at near → Passing s line trip far next k m n
       unfolding trackBehind timeBehind lengthBehind
-      passing-next v ve k ke m me n ne =
+      passing-next v ve k ke m me n ne far fe =
           let o = onward-next .1 in
           record {
             place = onward-next .0;
-            last = w .place;
+            mine = step-mine 8 s order ways ready three-numbers line trip l t (goesUp trip) (after (goesUp trip) (third 8 (texts 8 s places))) next e;
+            last = rw fe (either (leb near at) (λ d. rw d (w .place)) (λ d. rw d (w .last)));
             track = rw (ke, ve) (rw o at (w .track));
             times = rw (me, ve) (rw o at (w .times));
             lengths = rw (ne, ve) (rw o at (w .lengths));

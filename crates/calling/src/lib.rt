@@ -1,10 +1,12 @@
 // A trip's stops: document 01, "A trip's stops". Its records are walked through in Zasspoje in travel order.
-use trail::along;
-use trail::onward;
-use trip::course;
+use trail::Step;
+use trail::first_step;
+use trail::step_on;
 use walk::cut;
 ghost use mathlib.Core.Path.{_≡_};
 ghost use Prim.Native.Nat.{_<_};
+ghost use lib.Dec.{leb};
+ghost use Rattle.laws.specs.Tests.{pick};
 ghost use Rattle.file.specs.Files.{fieldsOf};
 ghost use Rattle.file.specs.Reader.{Classes};
 ghost use Rattle.file.specs.Records.{recordsIn};
@@ -15,31 +17,34 @@ ghost use Rattle.coded.specs.Ready.{Ready};
 ghost use Rattle.trip.specs.Stops.{stopsFit};
 ghost use Rattle.calling.specs.Calling.{travelled, firstPlace};
 
-// What is wrong with a trip's stops, if anything, and where the last of them stands.
+// What is wrong with a trip's stops, if anything, and where the one that stands last in the file does: the next trip's are expected behind it.
 pub struct Stops {
     pub fit: bool,
     pub last: usize,
 }
 
 // inner: where the walk in travel order begins
-pub fn first_of(
-    f8: &[u8],
-    order: &[u32],
-    ways: &[usize],
-    last: usize,
-    line: u64,
-    trip: u64,
-) -> usize
+pub fn first_of(f8: &[u8], order: &[u32], ways: &[usize], last: usize, line: u64, trip: u64) -> Step
     requires { ⌜ Ready tripStopsFile (now f8) (now order) (now ways) × PlaceIn tripStopsFile (now f8) last × (line < none) × (trip < none) ⌝ }
-    ensures { λ r. ⌜ r ≡ firstPlace (now (f8 .entry)) line trip ⌝ }
+    ensures { λ r. ⌜ r .at ≡ firstPlace (now (f8 .entry)) line trip ⌝ }
 {
     if trip % 2 == 1 {
-        return along(8, f8, order, ways, last, true, line, trip, 0);
+        return first_step(8, f8, order, ways, last, true, line, trip);
     }
-    along(8, f8, order, ways, last, false, line, trip, 1000000000)
+    first_step(8, f8, order, ways, last, false, line, trip)
 }
 
-// inner: whether a trip isn't refused with 11, and where the last of its stops stands
+// The later of two places.
+fn later(a: usize, b: usize) -> usize
+    ensures { λ r. ⌜ r ≡ pick (leb a b) b a ⌝ }
+{
+    if a <= b {
+        return b;
+    }
+    a
+}
+
+// inner: whether a trip isn't refused with 11, and where the one of its stops that is last in the file stands
 pub fn stops_fit(
     f8: &[u8],
     order: &[u32],
@@ -57,16 +62,16 @@ pub fn stops_fit(
     let mut c = course::set_out();
     let mut time: u64 = 0;
     let mut length: u64 = 0;
-    let mut near = last;
-    let mut at = first_of(f8, order, ways, last, line, trip);
-    while at < f8.len() {
-        cut(f8, at, 10, class, &mut places);
+    let mut step = first_of(f8, order, ways, last, line, trip);
+    let mut near = step.at;
+    while step.at < f8.len() {
+        let next = cut(f8, step.at, 10, class, &mut places);
         let v = course::visit_of(f8, &places);
         c = course::track_on(c, v);
         time = course::time_on(time, v);
         length = course::length_on(length, v);
-        near = at;
-        at = onward(8, f8, &places, order, ways, at, up, line, trip);
+        near = later(near, step.at);
+        step = step_on(8, f8, &places, order, ways, step, next, up, line, trip);
     }
     Stops {
         fit: course::course_ends(c, time, length),

@@ -11,7 +11,6 @@ use halts::nth_stop;
 use halts::stop_has;
 use halts::timed_behind;
 use trail::by_two;
-use trip::course;
 use walk::Found;
 use walk::cut;
 use walk::part;

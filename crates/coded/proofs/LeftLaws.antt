@@ -1,26 +1,27 @@
 -- A walk along a trip's records, by the place where it stands: what is left of them from there on, and how a step shortens it. These laws are
 -- of any file whose keys are three numbers.
 use mathlib.Core.Path.{_≡_, sym, ap, _∙_}
-use mathlib.Core.Bool.{Bool}
+use mathlib.Core.Bool.{Bool, true}
 use mathlib.Core.List.{List, [], _∷_, _++_}
-use Prim.Native.Nat.{ℕ, _≤_, _<_}
+use Prim.Native.Nat.{ℕ, _+_, _≤_, _<_}
 use lib.Dec.{ltb}
 use lib.ListN.{length}
 use borrow.Author.Tests.{lt-ltb, le-ltb, ltb-true, ltb-false}
 use Rattle.laws.specs.Tests.{pick, either}
 use Rattle.file.specs.Files.{fieldsOf}
-use Rattle.file.specs.Format.{Fields}
+use Rattle.file.specs.Format.{Fields, writtenRecord}
 use Rattle.file.specs.Records.{recordsIn}
 use Rattle.walk.specs.Walk.{Cuts, RecordAt}
 use Rattle.walk.proofs.WalkLaws.{cut-first}
+use Rattle.lines.proofs.LineLaws.{next-at, cut-next}
 use Rattle.rules.specs.Texts.{texts, Kinded}
-use Rattle.keys.specs.Keys.{keyFields, third, none}
+use Rattle.keys.specs.Keys.{keyFields, ofTrip, third, none}
 use Rattle.keys.specs.KeyFiles.{PlaceIn}
 use Rattle.keys.specs.Ranks.{recordAt}
 use Rattle.keys.proofs.KeyFileLaws.{key-here}
 use Rattle.amiss.proofs.RecordLaws.{cut-kinded}
 use Rattle.trail.specs.Lists.{backward}
-use Rattle.trail.specs.Trail.{upward, ahead, begin, after, stepOf, placeOf, Walks, Comes}
+use Rattle.trail.specs.Trail.{upward, ahead, begin, after, stepOf, placeOf, Walks, Treads, Comes}
 use Rattle.trail.proofs.ListLaws.{All}
 use Rattle.trail.proofs.TrailLaws.{comes, ahead-begin}
 use Rattle.coded.specs.Left.{leftAt}
@@ -37,6 +38,16 @@ module _ {A : Type 0} (keeps : A → Type 0) where
   unfolding All backward
   all-backward [] h = tt
   all-backward (a ∷ l) h = all-append (backward l) (a ∷ []) (all-backward l (h .1)) (h .0, tt)
+
+-- one of the trip's records was cut: what a step from it knows
+pub treads : (file : ℕ) (s : List ℕ) (line trip at : ℕ) {old places : List ℕ} {next : ℕ} → PlaceIn file s at → at < length s
+    → Cuts (fieldsOf file) s at old places next → ofTrip file line trip (recordAt file s at) ≡ true → Treads file s places line trip at next
+treads file s line trip at {old} {places} {next} p h c m =
+    let n = fieldsOf file in
+    let first = cut-first n s at old places next c in
+    let a = cut-next n s at old places next p c .size in
+    let b = next-at n s at p h .size in
+    record { within = h; here = first; past = a ∙ ap (λ (r : Fields). at + length (writtenRecord r)) (sym first) ∙ sym b; mine = m }
 
 -- a record of the file starts at `at`
 module _ (file : ℕ) (s order ways : List ℕ) (ready : Ready file s order ways) (at : ℕ) (p : PlaceIn file s at) (h : at < length s) where
@@ -70,6 +81,10 @@ module _ (file : ℕ) (s order ways : List ℕ) (ready : Ready file s order ways
         either (ltb at (length s))
         (λ e. rw e (sym (c .more (ltb-true at (length s) e))))
         (λ e. rw e (sym (c .done (ltb-false at (length s) e))))
+
+    -- a step comes to one of the trip's records, or to the end
+    pub step-mine : (x at : ℕ) → at ≡ placeOf s (stepOf file up line trip x all) → at < length s → ofTrip file line trip (recordAt file s at) ≡ true
+    step-mine x at e h = comes file s line trip (ready .key) count (ready .once) l t up x at e .mine h
 
     -- where the walk begins, all the trip's records are left
     pub left-start : (at : ℕ) → at ≡ placeOf s (stepOf file up line trip (begin up) all)

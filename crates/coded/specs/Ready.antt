@@ -9,7 +9,7 @@ use Rattle.keys.specs.KeyFiles.{KeyFile}
 use Rattle.lookup.specs.Ways.{Way, howOf, fromOf, toOf}
 use Rattle.amiss.specs.Sound.{OfKind}
 use Rattle.trail.specs.Trail.{Once}
-use Rattle.trip.specs.Seen.{AllMeet}
+use Rattle.codes.specs.Seen.{AllMeet}
 
 pub record Ready (file : ℕ) (s order ways : List ℕ) : Type 0 where
   pub key : KeyFile file s

@@ -5,7 +5,7 @@ use mathlib.Core.List.{List, [], _∷_}
 use Rattle.laws.specs.Tests.{pick}
 use Rattle.laws.specs.Numbered.{Numbered, answered, refused}
 use Rattle.calendar.specs.Answers.{bit}
-use Rattle.calendar.specs.Dates.{isDay}
+use Rattle.dates.specs.Dates.{isDay}
 use Rattle.keys.specs.Keys.{has}
 use Rattle.thirteen.specs.Batch.{Batch, recordsOf, orElse}
 use Rattle.trip.specs.Stage.{tripsFile}

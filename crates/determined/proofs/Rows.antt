@@ -20,10 +20,12 @@ use Rattle.calls.specs.Numbers.{numberedStop}
 use Rattle.calls.specs.OneResult.{stop-one}
 use Rattle.sale.specs.Answers.{numberedSale, saleAnswer}
 use Rattle.sale.specs.OneResult.{sale-one}
-use Rattle.sales.specs.Sales.{numberedSales, salesAnswer, salesList}
-use Rattle.sales.specs.OneResult.{sales-one}
-use Rattle.naming.specs.Names.{numberedNamed, nameAnswer}
-use Rattle.naming.specs.OneResult.{named-one}
+use Rattle.asking.specs.Answers.{numberedSales}
+use Rattle.sales.specs.Sales.{salesAnswer, salesList}
+use Rattle.asking.specs.OneResult.{sales-one}
+use Rattle.named.specs.Names.{numberedNamed}
+use Rattle.naming.specs.Names.{nameAnswer}
+use Rattle.named.specs.OneResult.{named-one}
 use Rattle.arrange.specs.Hint.{numberedHint, hintAnswer, hintList}
 use Rattle.arrange.specs.OneResult.{hint-one}
 use Rattle.fileresults.specs.Results.{writeResult}

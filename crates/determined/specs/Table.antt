@@ -15,7 +15,7 @@ use Rattle.counter.specs.Numbers.{RunsIs}
 use Rattle.calls.specs.Numbers.{StopIs}
 use Rattle.sale.specs.Answers.{SaleIs}
 use Rattle.sales.specs.Sales.{SalesIs}
-use Rattle.sales.specs.declared.Sales.{Sales}
+use Rattle.asking.specs.declared.Sales.{Sales}
 use Rattle.naming.specs.Names.{NameIs}
 use Rattle.arrange.specs.Hint.{HintIs}
 use Rattle.arrange.specs.declared.Arranged.{Arranged}

@@ -1,8 +1,8 @@
 -- The twelve facts hold. All but P11 are closed: both sides compute to one value, the number of a day by counting years and months from 1900 on. P11 is
 -- about any two records: with their types and the one mark put in, its two sides compute as well, since a text is the same as itself.
 use mathlib.Core.Path.{refl}
-use Rattle.calendar.specs.Dates.{leap, yearDays, months, monthDays, isDate, yearsDays, monthsDays, dayNumber, lastBegun, yearOf, newYear}
-use Rattle.calendar.specs.Weeks.{weekday, mondayOf, thursdayOf, thursdays, weekOf, oddWeek}
+use Rattle.dates.specs.Dates.{leap, yearDays, months, monthDays, isDate, yearsDays, monthsDays, dayNumber, lastBegun, yearOf, newYear}
+use Rattle.weeks.specs.Weeks.{weekday, mondayOf, thursdayOf, thursdays, weekOf, oddWeek}
 use Rattle.calendar.specs.Answers.{dayAnswer, weekdayAnswer, weekAnswer}
 use Rattle.file.specs.Bytes.{ends, undefined, permittedByte}
 use Rattle.file.specs.Files.{fieldCounts, fieldsOf}

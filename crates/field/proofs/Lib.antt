@@ -1,3 +1,2 @@
 pub mod ValueLaws
-pub mod KindLaws
 pub mod AdmitLaws

@@ -12,8 +12,8 @@ use lib.ListN.{length, getD, take, drop, drop-of-length-le}
 use lib.Seq.{drop-cons}
 use borrow.Author.Tests.{leb-true, le-leb, lt-leb}
 use Rattle.laws.specs.Tests.{both, never, both-left, both-right, both-false}
-use Rattle.calendar.specs.Dates.{isDate}
-use Rattle.calendar.specs.Real.{real, number-day}
+use Rattle.dates.specs.Dates.{isDate}
+use Rattle.dates.specs.Real.{real, number-day}
 use Rattle.file.specs.Format.{Text}
 use Rattle.field.specs.Values.{isByte, among, isDigit, allDigits, isDigits, valueFrom, value, isDateText, dayPart, monthPart, yearPart, dayOfText, isTime, hourPart, minutePart, minuteOf}
 

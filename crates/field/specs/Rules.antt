@@ -5,7 +5,7 @@ use mathlib.Core.List.{List, [], _∷_}
 use mathlib.Core.Bool.{Bool, true, false, not}
 use lib.Dec.{eqb, leb}
 use Rattle.laws.specs.Tests.{pick, both, oneOf}
-use Rattle.calendar.specs.Dates.{within}
+use Rattle.dates.specs.Dates.{within}
 use Rattle.file.specs.Format.{Text, Fields}
 use Rattle.field.specs.Values.{isEmpty, given, isByte, among, isDigits, value, dayOfText, isTime}
 use Rattle.field.specs.Names.{field, stopsFile, district, country, firmsFile, firmKind, personName, linesFile, licenceFrom, licenceTo, validFrom, validTo, tripStopsFile, kilometres, arrival, departure, timeCodesFile, mark, codeType, codeFrom, codeTo, alternativesFile, firstCarrierCode, carrierCodes, carrierType, carrierFrom, carrierTo}

@@ -5,7 +5,7 @@ use mathlib.Core.Bool.{Bool, true, false, not}
 use lib.Dec.{eqb, leb}
 use lib.ListN.{length, take, drop}
 use Rattle.laws.specs.Tests.{both, oneOf}
-use Rattle.calendar.specs.Dates.{within, isDate, dayNumber}
+use Rattle.dates.specs.Dates.{within, isDate, dayNumber}
 use Rattle.file.specs.Format.{Text}
 
 -- empty, and given

@@ -1,11 +1,9 @@
-// The kinds of fields, and the values of digits: document 01, "Fields", and the tables of 000.
+// What a field of each kind may hold, and the values of digits: document 01, "Fields". Which field is of which kind stands in the crate `kinds`.
 mod admits;
-mod kinds;
 mod values;
 
 pub use admits::admits_text;
 pub use admits::is_sized;
-pub use kinds::kind_of;
 pub use values::all_digits;
 pub use values::day_of;
 pub use values::is_byte;

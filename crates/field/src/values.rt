@@ -1,6 +1,5 @@
 // What digits are worth, dates and times: document 01, "Fields". All of it is inner: what each function means is its definition in
 // specs/Values.antt.
-use calendar::dates;
 ghost use mathlib.Core.Path.{_≡_};
 ghost use mathlib.Core.Bool.{true};
 ghost use Prim.Native.Nat.{_+_, _≤_};

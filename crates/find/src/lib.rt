@@ -1,71 +1,22 @@
 // A record by its key, in three ways that meet one promise, `firstWith`: the first record that has the key, by its place, or none. Where keys
 // rise, the place that was found last and the one behind it are tried, then bisection; else a lent index, if there is one; else every record.
-use hinted::lower;
 use keys::Key;
-use keys::equal;
 use keys::key_at;
-use lines::line_after;
-use ordered::first_from;
+use search::among_rising;
+use search::by_index;
+use search::by_search;
 use walk::Found;
 ghost use mathlib.Core.Path.{_≡_};
-ghost use lib.Dec.{eqb, leb};
-ghost use Rattle.laws.specs.Tests.{pick, both};
 ghost use mathlib.Core.List.{[], _∷_};
 ghost use Prim.Native.Nat.{_<_};
 ghost use lib.ListN.{length};
 ghost use Rattle.file.specs.Files.{fieldsOf};
 ghost use Rattle.file.specs.Records.{recordsIn};
-ghost use Rattle.keys.specs.Keys.{keyFields, keyOf, none, lesser, has, firstWith, nextNumber, nextOf};
+ghost use Rattle.keys.specs.Keys.{keyOf, none, has, firstWith};
 ghost use Rattle.keys.specs.Ranks.{rankOf, rankKey, recordAt};
 ghost use Rattle.lines.specs.Order.{firstRanked};
-ghost use Rattle.keys.specs.KeyFiles.{KeyFile, KeysRise, PlaceIn, IsIndex};
-ghost use Rattle.find.specs.Find.{Serves, Asks, tripAt};
-
-// Where keys rise.
-fn among_rising(file: u64, s: &[u8], last: usize, k: Key) -> Found
-    requires { ⌜ KeyFile file (now s) × KeysRise file (now s) × PlaceIn file (now s) last × (k .lo < none) ⌝ }
-    ensures { λ r. ⌜ r ≡ firstRanked (rankOf file) (rankKey k) 0 (recordsIn (fieldsOf file) (now (s .entry))) ⌝ }
-{
-    let first = first_from(file, s, last, k);
-    if first >= s.len() {
-        return Found::Nothing;
-    }
-    if equal(key_at(file, s, first), k) {
-        return Found::At(first);
-    }
-    Found::Nothing
-}
-
-// By an index.
-fn by_index(file: u64, s: &[u8], order: &[u32], k: Key) -> Found
-    requires { ⌜ KeyFile file (now s) × IsIndex file (now s) (now order) × (k .lo < none) ⌝ }
-    ensures { λ r. ⌜ r ≡ firstRanked (rankOf file) (rankKey k) 0 (recordsIn (fieldsOf file) (now (s .entry))) ⌝ }
-{
-    let i = lower(file, s, order, k);
-    if i >= order.len() {
-        return Found::Nothing;
-    }
-    let place = order[i] as usize;
-    if equal(key_at(file, s, place), k) {
-        return Found::At(place);
-    }
-    Found::Nothing
-}
-
-// Record by record.
-fn by_search(file: u64, s: &[u8], k: Key) -> Found
-    requires { ⌜ KeyFile file (now s) × (k .lo < none) ⌝ }
-    ensures { λ r. ⌜ r ≡ firstRanked (rankOf file) (rankKey k) 0 (recordsIn (fieldsOf file) (now (s .entry))) ⌝ }
-{
-    let mut at = 0;
-    while at < s.len() {
-        if equal(key_at(file, s, at), k) {
-            return Found::At(at);
-        }
-        at = line_after(s, at);
-    }
-    Found::Nothing
-}
+ghost use Rattle.keys.specs.KeyFiles.{PlaceIn};
+ghost use Rattle.find.specs.Find.{Serves, Asks};
 
 // In whichever way serves.
 fn first_ranked(file: u64, s: &[u8], rises: bool, part: &[u32], last: usize, k: Key) -> Found
@@ -131,143 +82,6 @@ pub fn with_three(
 {
     let hi = a * 1000000000 + b;
     first_ranked(file, s, rises, part, last, Key { hi: hi, lo: c })
-}
-
-// The lesser of `least` and the third number of k, if k is a key of the trip, from x on.
-fn nearer(least: u64, hi: u64, x: u64, k: Key) -> u64
-    ensures { λ r. ⌜ r ≡ pick (both (eqb (k .hi) hi) (leb x (k .lo))) (lesser (k .lo) least) least ⌝ }
-{
-    if k.hi != hi {
-        return least;
-    }
-    if k.lo < x {
-        return least;
-    }
-    if k.lo <= least {
-        return k.lo;
-    }
-    least
-}
-
-// The least third number, from x on, of a trip's records: every record is looked at.
-fn least_third(file: u64, s: &[u8], line: u64, trip: u64, x: u64) -> u64
-    requires { ⌜ KeyFile file (now s) × (length (keyFields file) ≡ 3) × (line < none) × (trip < none) ⌝ }
-    ensures { λ r. ⌜ r ≡ nextNumber file line trip x (recordsIn (fieldsOf file) (now (s .entry))) ⌝ }
-{
-    let hi = line * 1000000000 + trip;
-    let mut least: u64 = 1000000000;
-    let mut at: usize = 0;
-    while at < s.len() {
-        least = nearer(least, hi, x, key_at(file, s, at));
-        at = line_after(s, at);
-    }
-    least
-}
-
-// The record at a place, if it is one of the trip's.
-fn if_of_trip(file: u64, s: &[u8], at: usize, line: u64, trip: u64) -> Found
-    requires { ⌜ KeyFile file (now s) × (length (keyFields file) ≡ 3) × PlaceIn file (now s) at × (line < none) × (trip < none) ⌝ }
-    ensures { λ r. ⌜ r ≡ tripAt file line trip (now (s .entry)) at ⌝ }
-{
-    if at >= s.len() {
-        return Found::Nothing;
-    }
-    let k = key_at(file, s, at);
-    if k.hi == line * 1000000000 + trip {
-        return Found::At(at);
-    }
-    Found::Nothing
-}
-
-// Record by record: first the number, then its record.
-fn next_by_search(file: u64, s: &[u8], line: u64, trip: u64, x: u64) -> Found
-    requires { ⌜ KeyFile file (now s) × (length (keyFields file) ≡ 3) × (line < none) × (trip < none) ⌝ }
-    ensures { λ r. ⌜ r ≡ nextOf file line trip x (recordsIn (fieldsOf file) (now (s .entry))) ⌝ }
-{
-    let y = least_third(file, s, line, trip, x);
-    if y == 1000000000 {
-        return Found::Nothing;
-    }
-    by_search(
-        file,
-        s,
-        Key {
-            hi: line * 1000000000 + trip,
-            lo: y,
-        },
-    )
-}
-
-// By an index.
-fn next_by_index(file: u64, s: &[u8], order: &[u32], line: u64, trip: u64, x: u64) -> Found
-    requires { ⌜ KeyFile file (now s) × (length (keyFields file) ≡ 3) × IsIndex file (now s) (now order) × (line < none) × (trip < none) × (x < none) ⌝ }
-    ensures { λ r. ⌜ r ≡ nextOf file line trip x (recordsIn (fieldsOf file) (now (s .entry))) ⌝ }
-{
-    let i = lower(
-        file,
-        s,
-        order,
-        Key {
-            hi: line * 1000000000 + trip,
-            lo: x,
-        },
-    );
-    if i >= order.len() {
-        return Found::Nothing;
-    }
-    if_of_trip(file, s, order[i] as usize, line, trip)
-}
-
-// The same in whichever way serves.
-fn next_below(
-    file: u64,
-    s: &[u8],
-    rises: bool,
-    part: &[u32],
-    last: usize,
-    line: u64,
-    trip: u64,
-    x: u64,
-) -> Found
-    requires { ⌜ Asks file (now s) rises (now part) last 3 × (line < none) × (trip < none) × (x < none) ⌝ }
-    ensures { λ r. ⌜ r ≡ nextOf file line trip x (recordsIn (fieldsOf file) (now (s .entry))) ⌝ }
-{
-    if rises {
-        let at = first_from(
-            file,
-            s,
-            last,
-            Key {
-                hi: line * 1000000000 + trip,
-                lo: x,
-            },
-        );
-        return if_of_trip(file, s, at, line, trip);
-    }
-    if part.len() > 0 {
-        return next_by_index(file, s, part, line, trip, x);
-    }
-    next_by_search(file, s, line, trip, x)
-}
-
-// inner: of the records of a trip, the one whose third number is the least from x on; no number has ten digits
-pub fn next_of_trip(
-    file: u64,
-    s: &[u8],
-    rises: bool,
-    part: &[u32],
-    last: usize,
-    line: u64,
-    trip: u64,
-    x: u64,
-) -> Found
-    requires { ⌜ Asks file (now s) rises (now part) last 3 × (line < none) × (trip < none) ⌝ }
-    ensures { λ r. ⌜ r ≡ nextOf file line trip x (recordsIn (fieldsOf file) (now (s .entry))) ⌝ }
-{
-    if x >= 1000000000 {
-        return Found::Nothing;
-    }
-    next_below(file, s, rises, part, last, line, trip, x)
 }
 
 // inner: whether a record before the one that starts at `at` has its key

@@ -33,19 +33,20 @@ use Rattle.link.specs.Numeric.{numeric, NumberAt, CodeAt}
 use Rattle.link.specs.Signs.{signIn, isIn}
 use Rattle.link.proofs.KindOfLinks.{code-kind}
 use Rattle.trail.specs.Lists.{select, firstOr, some, travel, backward}
-use Rattle.trail.specs.Trail.{upward, after, stepOf, placeOf}
+use Rattle.trail.specs.Trail.{upward, begin, after, stepOf, placeOf}
 use Rattle.trail.proofs.ListLaws.{length-travel}
 use Rattle.trip.specs.Stops.{arrives, departs, timed}
-use Rattle.trip.specs.Track.{visitOf}
+use Rattle.course.specs.Track.{visitOf}
 use Rattle.trip.specs.View.{signsFrom}
-use Rattle.trip.specs.declared.course.Visit.{Visit}
+use Rattle.course.specs.declared.Visit.{Visit}
 use Rattle.trip.proofs.ViewLaws.{first-found, first-same, of-trip-fields}
 use Rattle.coded.specs.Left.{leftAt}
 use Rattle.coded.specs.Ready.{Ready}
-use Rattle.coded.proofs.LeftLaws.{left-start, left-done, left-next}
+use Rattle.coded.proofs.LeftLaws.{step-mine, left-start, left-done, left-next}
 use Rattle.calling.specs.Calling.{travelled, goesUp, firstPlace}
 use Rattle.calling.proofs.CallingLaws.{three-numbers}
-use Rattle.halts.specs.Halts.{lineStopAt, plainSigns}
+use Rattle.halts.specs.Halts.{StopSought, lineStopAt, plainSigns, MarksOf}
+use Rattle.halts.specs.declared.Marks.{Marks}
 
 -- THE WALK. Those that pass a test are no more than all.
 select-few : {A : Type 0} (test : A → Bool) (l : List A) → length (select test l) ≤ length l
@@ -86,6 +87,11 @@ drop-none all i n e h =
     let z : i + (n - i) ≡ n = omega arith in
     rw z at (sym (drop-drop (n - i) i all)) ∙ ap (drop (n - i)) e ∙ drop-of-length-le [] {i = n - i} (omega arith)
 
+-- where a walk stands: at one of the trip's records, or at the end
+pub record On (s : List ℕ) (line trip at : ℕ) : Type 0 where
+  pub place : PlaceIn 8 s at
+  pub mine : at < length s → ofTrip 8 line trip (recordAt 8 s at) ≡ true
+
 module _ (s order ways : List ℕ) (ready : Ready 8 s order ways) (line trip : ℕ) (l : line < none) (t : trip < none) where
   abbrev left : ℕ → List Fields
   left at = leftAt 8 s (goesUp trip) line trip at
@@ -94,11 +100,12 @@ module _ (s order ways : List ℕ) (ready : Ready 8 s order ways) (line trip : �
   mine = travelled line trip (recordsIn (fieldsOf 8) s)
 
   -- where the walk begins, all are left
-  pub walk-start : (at : ℕ) → at ≡ firstPlace s line trip → PlaceIn 8 s at × (left at ≡ mine)
+  pub walk-start : (at : ℕ) → at ≡ firstPlace s line trip → On s line trip at × (left at ≡ mine)
   unfolding firstPlace
   walk-start at e =
       let w = left-start 8 s order ways ready three-numbers line trip l t (goesUp trip) at e in
-      (w .0, w .1 ∙ sym (travel-order line trip (recordsIn (fieldsOf 8) s)))
+      let on : On s line trip at = record { place = w .0; mine = step-mine 8 s order ways ready three-numbers line trip l t (goesUp trip) (begin (goesUp trip)) at e } in
+      (on, w .1 ∙ sym (travel-order line trip (recordsIn (fieldsOf 8) s)))
 
   -- at the end none is
   pub walk-done : (at : ℕ) → length s ≤ at → left at ≡ []
@@ -120,8 +127,11 @@ module _ (s order ways : List ℕ) (ready : Ready 8 s order ways) (line trip : �
   -- a record comes
   module _ (at : ℕ) (h : at < length s) {old places : List ℕ} {end : ℕ} (cut : Cuts (fieldsOf 8) s at old places end) where
     module _ (next : ℕ) (e : next ≡ placeOf s (stepOf 8 (goesUp trip) line trip (after (goesUp trip) (third 8 (texts 8 s places))) (recordsIn (fieldsOf 8) s))) where
-      pub walk-next : PlaceIn 8 s next × (left at ≡ texts 8 s places ∷ left next)
-      walk-next = left-next 8 s order ways ready three-numbers line trip l t (goesUp trip) at h cut next e
+      pub walk-next : On s line trip next × (left at ≡ texts 8 s places ∷ left next)
+      walk-next =
+          let w = left-next 8 s order ways ready three-numbers line trip l t (goesUp trip) at h cut next e in
+          let x = after (goesUp trip) (third 8 (texts 8 s places)) in
+          (record { place = w .0; mine = step-mine 8 s order ways ready three-numbers line trip l t (goesUp trip) x next e }, w .1)
 
       -- fewer are left
       pub walk-less : length (left next) < length (left at)
@@ -171,7 +181,16 @@ module _ (r : Fields) (v : Visit) (e : v ≡ visitOf r) where
       let z : departs r ≡ false = ap (λ (w : Visit). w .departs) (sym e) ∙ d in
       rw (y, z)
 
--- THE SIGNS OF CODES. One more code: the sign of an empty one, 0, is none that is looked for.
+-- THE SIGNS OF CODES. One of three, and one or none.
+one-of-three : (a b c : Bool) → oneOf (oneOf a b) c ≡ oneOf a (oneOf b c)
+one-of-three true b c = refl
+one-of-three false b c = refl
+
+one-or-none : (a : Bool) → oneOf a false ≡ a
+one-or-none true = refl
+one-or-none false = refl
+
+-- one more code: the sign of an empty one, 0, is none that is looked for.
 sign-first : (sign : ℕ → ℕ) (x f n : ℕ) (r : Fields) → (x ≡ 0 → ⊥)
     → isIn x (signsFrom sign f (suc n) r) ≡ oneOf (eqb x (pick (isEmpty (field f r)) 0 (sign (value (field f r))))) (isIn x (signsFrom sign (f + 1) n r))
 unfolding isIn signsFrom
@@ -209,6 +228,70 @@ module _ (sign : ℕ → ℕ) (x i to : ℕ) (r : Fields) (h : x ≡ 0 → ⊥) 
       let z : to - i ≡ 0 = omega arith in
       rw z
 
+  -- whether one sign is the other, asked the other way round
+  turned : (y : ℕ) → y ≡ here → eqb y x ≡ eqb x here
+  turned y e =
+      either (eqb y x)
+      (λ t. t ∙ sym (eq-eqb x here (sym (eqb-true y x t) ∙ e)))
+      (λ t. t ∙ sym (ne-eqb x here (λ q. eqb-false y x t (e ∙ sym q))))
+
+  -- one of those that came, or of those that are left, has the sign: the first of these comes
+  codes-turn : i < to → (y : ℕ) → y ≡ here → (a b w : Bool) → b ≡ oneOf a (eqb y x)
+      → oneOf a (isIn x (signsFrom sign (i + 1) (to - i) r)) ≡ w → oneOf b (isIn x (signsFrom sign (i + 1 + 1) (to - (i + 1)) r)) ≡ w
+  codes-turn l y e a b w d u =
+      let rest = isIn x (signsFrom sign (i + 1 + 1) (to - (i + 1)) r) in
+      let z : b ≡ oneOf a (eqb x here) = d ∙ ap (oneOf a) (turned y e) in
+      rw z (one-of-three a (eqb x here) rest) ∙ ap (oneOf a) (sym (codes-first l)) ∙ u
+
+  -- none is left
+  codes-end : to ≤ i → (a w : Bool) → oneOf a (isIn x (signsFrom sign (i + 1) (to - i) r)) ≡ w → a ≡ w
+  unfolding isIn signsFrom
+  codes-end l a w u =
+      let z : to - i ≡ 0 = omega arith in
+      sym (one-or-none a) ∙ rw z at u
+
+-- THE MARKS. What came and what is left, of the codes in texts i to `to` - 1, are all.
+pub record Coming (sign : ℕ → ℕ) (i to : ℕ) (r : Fields) (all : List ℕ) (m : Marks) : Type 0 where
+  pub dollar-so : oneOf (m .dollar) (isIn 36 (signsFrom sign (i + 1) (to - i) r)) ≡ isIn 36 all
+  pub opening-so : oneOf (m .opening) (isIn 40 (signsFrom sign (i + 1) (to - i) r)) ≡ isIn 40 all
+  pub closing-so : oneOf (m .closing) (isIn 41 (signsFrom sign (i + 1) (to - i) r)) ≡ isIn 41 all
+  pub section-so : oneOf (m .section) (isIn 0xA7 (signsFrom sign (i + 1) (to - i) r)) ≡ isIn 0xA7 all
+
+module _ (sign : ℕ → ℕ) (i to : ℕ) (r : Fields) where
+  -- none has come
+  pub coming-first : (m : Marks) → MarksOf [] m → Coming sign i to r (signsFrom sign (i + 1) (to - i) r) m
+  unfolding isIn
+  coming-first m e =
+      record {
+        dollar-so = rw (e .dollar-is);
+        opening-so = rw (e .opening-is);
+        closing-so = rw (e .closing-is);
+        section-so = rw (e .section-is);
+      }
+
+  module _ (all : List ℕ) (m : Marks) (c : Coming sign i to r all m) where
+    -- one more comes
+    pub coming-next : i < to → (y : ℕ) → y ≡ pick (isEmpty (field (i + 1) r)) 0 (sign (value (field (i + 1) r))) → (n : Marks)
+        → (n .dollar ≡ oneOf (m .dollar) (eqb y 36)) × (n .opening ≡ oneOf (m .opening) (eqb y 40)) × (n .closing ≡ oneOf (m .closing) (eqb y 41)) × (n .section ≡ oneOf (m .section) (eqb y 0xA7))
+        → Coming sign (i + 1) to r all n
+    coming-next l y e n d =
+        record {
+          dollar-so = codes-turn sign 36 i to r (λ z. omega arith) l y e (m .dollar) (n .dollar) (isIn 36 all) (d .0) (c .dollar-so);
+          opening-so = codes-turn sign 40 i to r (λ z. omega arith) l y e (m .opening) (n .opening) (isIn 40 all) (d .1) (c .opening-so);
+          closing-so = codes-turn sign 41 i to r (λ z. omega arith) l y e (m .closing) (n .closing) (isIn 41 all) (d .2) (c .closing-so);
+          section-so = codes-turn sign 0xA7 i to r (λ z. omega arith) l y e (m .section) (n .section) (isIn 0xA7 all) (d .3) (c .section-so);
+        }
+
+    -- all have come
+    pub coming-last : to ≤ i → MarksOf all m
+    coming-last l =
+        record {
+          dollar-is = codes-end sign 36 i to r (λ z. omega arith) l (m .dollar) (isIn 36 all) (c .dollar-so);
+          opening-is = codes-end sign 40 i to r (λ z. omega arith) l (m .opening) (isIn 40 all) (c .opening-so);
+          closing-is = codes-end sign 41 i to r (λ z. omega arith) l (m .closing) (isIn 41 all) (c .closing-so);
+          section-is = codes-end sign 0xA7 i to r (λ z. omega arith) l (m .section) (isIn 0xA7 all) (c .section-so);
+        }
+
 -- the codes of Zaslinky are its texts 4 to 6
 pub line-stop-codes : (i : ℕ) → 4 ≤ i → i < 7 → CodeAt 7 (i + 1)
 unfolding linkOf links link.zaslinky
@@ -228,6 +311,13 @@ line-stop-codes i h l =
 pub line-stop-signs : (sign : ℕ → ℕ) (x : ℕ) (s : List ℕ) (at : ℕ) {old places : List ℕ} {end : ℕ} → Cuts (fieldsOf 7) s at old places end → {y : Bool}
     → y ≡ isIn x (signsFrom sign 5 3 (texts 7 s places)) → y ≡ isIn x (signsFrom sign 5 3 (recordAt 7 s at))
 line-stop-signs sign x s at c e =
+    let z = cut-first (fieldsOf 7) s at _ _ _ c in
+    rw z e
+
+-- and so its marks
+pub line-stop-marked : (sign : ℕ → ℕ) (s : List ℕ) (at : ℕ) {old places : List ℕ} {end : ℕ} → Cuts (fieldsOf 7) s at old places end → {m : Marks}
+    → MarksOf (signsFrom sign 5 3 (texts 7 s places)) m → MarksOf (signsFrom sign 5 3 (recordAt 7 s at)) m
+line-stop-marked sign s at c e =
     let z = cut-first (fieldsOf 7) s at _ _ _ c in
     rw z e
 
@@ -269,41 +359,57 @@ none-first k at (r ∷ rs) e =
     (λ t. rw t (none-first k (at + length (writtenRecord r)) rs (rw t at e)))
 
 -- it is looked for by its line and its tariff number
-module _ (codes : List Fields) (s : List ℕ) (r : Fields) (line tariff : ℕ) (a : line ≡ number 1 r) (b : tariff ≡ third 8 r) where
+pub sought-is : (s : List ℕ) (r : Fields) (line tariff : ℕ) → line ≡ number 1 r → tariff ≡ third 8 r → line < none → tariff < none
+    → {found : Found} → found ≡ firstWith 7 (line ∷ tariff ∷ []) 0 (recordsIn (fieldsOf 7) s) → StopSought s r found
+sought-is s r line tariff a b l t e =
+    record { line-small = rw a at l; tariff-small = rw b at t; look = rw (a, b) at e }
+
+module _ (codes : List Fields) (s : List ℕ) (r : Fields) {found : Found} (sought : StopSought s r found) where
+  abbrev key : List ℕ
+  key = number 1 r ∷ third 8 r ∷ []
+
   abbrev lineStops : List Fields
   lineStops = recordsIn (fieldsOf 7) s
 
-  by-key : lineStopAt codes lineStops r ≡ firstOr [] (λ q. same (keyOf 7 q) (line ∷ tariff ∷ [])) lineStops
+  by-key : lineStopAt codes lineStops r ≡ firstOr [] (λ q. same (keyOf 7 q) key) lineStops
   unfolding lineStopAt
-  by-key =
-      rw (← a, ← b)
-      (first-same [] (λ q. both (eqb (number 1 q) line) (eqb (number 2 q) tariff)) (λ q. same (keyOf 7 q) (line ∷ tariff ∷ [])) (stop-key line tariff) lineStops)
+  by-key = first-same [] (λ q. both (eqb (number 1 q) (number 1 r)) (eqb (number 2 q) (third 8 r))) (λ q. same (keyOf 7 q) key) (stop-key (number 1 r) (third 8 r)) lineStops
 
   -- found
-  module _ (f : KeyFile 7 s) (l : line < none) (t : tariff < none) {found : Found} (look : found ≡ firstWith 7 (line ∷ tariff ∷ []) 0 lineStops) (p : ℕ) (d : found ≡ At p) where
-    there : firstWith 7 (line ∷ tariff ∷ []) 0 lineStops ≡ At p
-    there = sym look ∙ d
+  module _ (f : KeyFile 7 s) (p : ℕ) (d : found ≡ At p) where
+    there : firstWith 7 key 0 lineStops ≡ At p
+    there = sym (sought .look) ∙ d
 
     pub stop-found : PlaceIn 7 s p × (p < length s)
     unfolding Small keyFields keyTable
     stop-found =
-        let k = line ∷ tariff ∷ [] in
-        let small : Small k = (l, (t, tt)) in
-        let q = found-place (fieldsOf 7) (rankOf 7) s (rank k) p (f .legal) (sym (first-with 7 k (f .keyed) small refl 0 lineStops (f .keys)) ∙ there) in
+        let small : Small key = (sought .line-small, (sought .tariff-small, tt)) in
+        let q = found-place (fieldsOf 7) (rankOf 7) s (rank key) p (f .legal) (sym (first-with 7 key (f .keyed) small refl 0 lineStops (f .keys)) ∙ there) in
         (q .place, q .within)
 
     stop-is : lineStopAt codes lineStops r ≡ recordAt 7 s p
-    stop-is = by-key ∙ first-found 7 s (line ∷ tariff ∷ []) p (f .legal) there
+    stop-is = by-key ∙ first-found 7 s key p (f .legal) there
 
     pub stop-there : (x : ℕ) {y : Bool} → y ≡ isIn x (signsFrom (λ c. signIn codes c) 5 3 (recordAt 7 s p))
         → y ≡ isIn x (signsFrom (λ c. signIn codes c) 5 3 (lineStopAt codes lineStops r))
     stop-there x e = rw stop-is e
 
+    pub marks-there : {m : Marks} → MarksOf (signsFrom (λ c. signIn codes c) 5 3 (recordAt 7 s p)) m
+        → MarksOf (signsFrom (λ c. signIn codes c) 5 3 (lineStopAt codes lineStops r)) m
+    marks-there e = rw stop-is e
+
   -- not found: then there are no signs
-  pub stop-none : {found : Found} → found ≡ firstWith 7 (line ∷ tariff ∷ []) 0 lineStops → found ≡ Nothing → (x : ℕ)
-      → false ≡ isIn x (signsFrom (λ c. signIn codes c) 5 3 (lineStopAt codes lineStops r))
-  unfolding isIn signsFrom
-  stop-none look d x = rw (by-key ∙ none-first (line ∷ tariff ∷ []) 0 lineStops (sym look ∙ d))
+  module _ (d : found ≡ Nothing) where
+    stop-empty : lineStopAt codes lineStops r ≡ []
+    stop-empty = by-key ∙ none-first key 0 lineStops (sym (sought .look) ∙ d)
+
+    pub stop-none : (x : ℕ) → false ≡ isIn x (signsFrom (λ c. signIn codes c) 5 3 (lineStopAt codes lineStops r))
+    unfolding isIn signsFrom
+    stop-none x = rw stop-empty
+
+    pub marks-none : {m : Marks} → MarksOf [] m → MarksOf (signsFrom (λ c. signIn codes c) 5 3 (lineStopAt codes lineStops r)) m
+    unfolding signsFrom
+    marks-none e = rw stop-empty e
 
 -- THE SIGNS OF A STOP. One of two lists has it, and one of those that are selected.
 in-append : (x : ℕ) (a b : List ℕ) → isIn x (a ++ b) ≡ oneOf (isIn x a) (isIn x b)
@@ -391,3 +497,33 @@ module _ (codes lineStops : List Fields) (r : Fields) (x : ℕ) where
         let z : own ≡ false = sym mine ∙ e in
         let w : eqb x 36 ≡ true = eq-eqb x 36 d in
         rw (signs-own h, z, w) g
+
+-- THE MARKS OF A STOP.
+module _ (codes lineStops : List Fields) (r : Fields) where
+  abbrev ownSigns : List ℕ
+  ownSigns = signsFrom (λ c. signIn codes c) 6 2 r
+
+  abbrev theirSigns : List ℕ
+  theirSigns = signsFrom (λ c. signIn codes c) 5 3 (lineStopAt codes lineStops r)
+
+  -- with no code of its own it has those of the line's stop
+  pub marks-theirs : length (field 6 r) + length (field 7 r) ≡ 0 → {m : Marks} → MarksOf theirSigns m → MarksOf (plainSigns codes lineStops r) m
+  unfolding plainSigns
+  marks-theirs h e = rw (own-none (λ c. signIn codes c) r h) e
+
+  -- with a code its own, and a `$` of the line's stop
+  module _ (h : length (field 6 r) + length (field 7 r) ≡ 0 → ⊥) where
+    own-mark : (x : ℕ) → (x ≡ 36 → ⊥) → isIn x ownSigns ≡ isIn x (plainSigns codes lineStops r)
+    own-mark x d = sym (signs-own codes lineStops r x h ∙ rw (ne-eqb x 36 d) (one-or-none (isIn x ownSigns)))
+
+    pub marks-own : {o t m : Marks} → MarksOf ownSigns o → MarksOf theirSigns t
+        → (m .dollar ≡ oneOf (o .dollar) (t .dollar)) × (m .opening ≡ o .opening) × (m .closing ≡ o .closing) × (m .section ≡ o .section)
+        → MarksOf (plainSigns codes lineStops r) m
+    marks-own {o} {t} {m} e f d =
+        let z : m .dollar ≡ oneOf (isIn 36 ownSigns) (isIn 36 theirSigns) = rw (d .0, e .dollar-is, f .dollar-is) in
+        record {
+          dollar-is = z ∙ sym (signs-own codes lineStops r 36 h);
+          opening-is = d .1 ∙ e .opening-is ∙ own-mark 40 (λ q. omega arith);
+          closing-is = d .2 ∙ e .closing-is ∙ own-mark 41 (λ q. omega arith);
+          section-is = d .3 ∙ e .section-is ∙ own-mark 0xA7 (λ q. omega arith);
+        }

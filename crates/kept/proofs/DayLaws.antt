@@ -10,7 +10,7 @@ use lib.ListN.{getD}
 use borrow.Author.Tests.{eqb-true, eqb-false, ltb-true, ltb-false, not-true}
 use Rattle.laws.specs.Tests.{both, oneOf, either, clash, both-left, both-right, both-true}
 use Rattle.file.specs.Format.{Fields}
-use Rattle.calendar.specs.Signs.{isDaySign}
+use Rattle.signs.specs.Signs.{isDaySign}
 use Rattle.field.specs.Names.{mark}
 use Rattle.keys.specs.Keys.{same}
 use Rattle.link.proofs.HasLaws.{one-left, one-right, one-cases, same-equal, equal-same}

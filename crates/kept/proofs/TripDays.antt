@@ -11,7 +11,7 @@ use lib.Seq.{split-at}
 use borrow.Author.Tests.{eqb-true, eqb-false, eq-eqb, ne-eqb}
 use Rattle.laws.specs.Tests.{both, either, both-left, both-right, both-true}
 use Rattle.file.specs.Format.{Fields}
-use Rattle.calendar.specs.Signs.{isDaySign}
+use Rattle.signs.specs.Signs.{isDaySign}
 use Rattle.field.specs.Values.{isEmpty}
 use Rattle.field.specs.Names.{field}
 use Rattle.walk.specs.declared.Found.{Found}

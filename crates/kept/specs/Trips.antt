@@ -5,7 +5,7 @@ use mathlib.Core.Path.{_≡_}
 use mathlib.Core.Logic.{_⊎_}
 use mathlib.Core.Bool.{true, false}
 use Rattle.file.specs.Format.{Text, Fields}
-use Rattle.calendar.specs.Signs.{isDaySign}
+use Rattle.signs.specs.Signs.{isDaySign}
 use Rattle.field.specs.Values.{given, value, minuteOf}
 use Rattle.field.specs.Names.{mark, kilometres, arrival, departure}
 use Rattle.trip.specs.Days.{typeOf}

@@ -1,9 +1,5 @@
-// Keys, links and signs: document 01, "The batch" and the permitted signs under "Fields"; refusals 7, 8 and 9.
-mod table;
-
-pub use table::is_permitted;
-pub use table::link_of;
-pub use table::links_in;
+// Keys, links and signs: document 01, "The batch" and the permitted signs under "Fields"; refusals 7, 8 and 9. Here stand the definitions and what a
+// batch keeps by them; the code that looks a field up in the tables is in the crate `targets`.
 
 // What a field links to.
 pub enum Link {

@@ -28,7 +28,8 @@ use Rattle.thirteen.specs.Batch.{Batch, fileIn, recordsOf}
 use Rattle.amiss.specs.Sound.{OfKind, Known, Record}
 use Rattle.amiss.proofs.SoundLaws.{sound-kinds}
 use Rattle.amiss.proofs.RecordLaws.{cut-kinded, later}
-use Rattle.links.proofs.StageLaws.{key-used, fields-few}
+use Rattle.recall.proofs.FieldLaws.{fields-few}
+use Rattle.links.proofs.StageLaws.{key-used}
 
 -- where record i of a file starts, and what stands before it
 record Nth (file : ℕ) (s : List ℕ) (i at : ℕ) : Type 0 where
@@ -136,11 +137,11 @@ module _ (b : Batch) (file : ℕ) (s part : List ℕ) (i : ℕ) (q : Hinted b fi
         record { known = later k new m; kinded = cut-kinded file s (getD part i 0) a (w .place) (w .within) c }
 
     -- nothing is wrong with it: the next entry comes
-    pub fit-more : Fit b file s part i → (f : ℕ) → f ≡ fieldAmiss b file (texts file s places) → f ≡ 0 → Fit b file s part (i + 1)
-    fit-more fit f e z j l =
+    pub fit-more : Fit b file s part i → fieldAmiss b file (texts file s places) ≡ 0 → Fit b file s part (i + 1)
+    fit-more fit z j l =
         either (ltb j i)
         (λ t. fit j (ltb-true j i t))
         (λ t.
         let y : j ≡ i = omega (arith, ltb-false j i t) in
-        let g : fieldAmiss b file (recordAt file s (getD part i 0)) ≡ 0 = ap (fieldAmiss b file) (cut-first (fieldsOf file) s (getD part i 0) old places next c) ∙ sym e ∙ z in
+        let g : fieldAmiss b file (recordAt file s (getD part i 0)) ≡ 0 = ap (fieldAmiss b file) (cut-first (fieldsOf file) s (getD part i 0) old places next c) ∙ z in
         rw y g)

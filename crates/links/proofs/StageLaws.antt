@@ -37,53 +37,8 @@ use Rattle.thirteen.specs.Batch.{Batch, fileIn, overFiles}
 use Rattle.amiss.specs.Sound.{SoundFiles, OfKind, StopsMet, Known, Record, UsedAsked, Used}
 use Rattle.amiss.proofs.SoundLaws.{sound-kinds}
 use Rattle.amiss.proofs.RecordLaws.{cut-kinded, later}
-
--- The fields of a record from f on, of n in all.
-module _ (b : Batch) (file : ℕ) (r : Fields) (f n : ℕ) where
-  -- nothing is wrong with field f
-  pub amiss-turn : f ≤ n → amiss b file r f ≡ 0 → firstAmiss b file r f (n + 1 - f) ≡ firstAmiss b file r (f + 1) (n + 1 - (f + 1))
-  unfolding firstAmiss
-  amiss-turn h e =
-      let z : n + 1 - f ≡ suc (n + 1 - (f + 1)) = omega arith in
-      rw (z, eq-eqb (amiss b file r f) 0 e)
-
-  -- something is
-  pub amiss-hit : f ≤ n → (amiss b file r f ≡ 0 → ⊥) → firstAmiss b file r f (n + 1 - f) ≡ f
-  unfolding firstAmiss
-  amiss-hit h e =
-      let z : n + 1 - f ≡ suc (n + 1 - (f + 1)) = omega arith in
-      rw (z, ne-eqb (amiss b file r f) 0 e)
-
-  -- none are left
-  pub amiss-done : n < f → firstAmiss b file r f (n + 1 - f) ≡ 0
-  unfolding firstAmiss
-  amiss-done h = let z : n + 1 - f ≡ 0 = omega arith in rw z
-
--- nothing is wrong with fields that have no link, so they may be left out
-module _ (b : Batch) (file : ℕ) (r : Fields) where
-  free-zero : (f : ℕ) → linksIn file < f → amiss b file r f ≡ 0
-  free-zero f h = sym (free-amiss b file f r (sym (free-behind file f h)))
-
-  none-amiss : (f more : ℕ) → linksIn file < f → firstAmiss b file r f more ≡ 0
-  unfolding firstAmiss
-  none-amiss f zero h = refl
-  none-amiss f (suc more) h = rw (eq-eqb (amiss b file r f) 0 (free-zero f h)) (none-amiss (f + 1) more (omega arith))
-
-  fewer-amiss : (f count more : ℕ) → linksIn file < f + count → firstAmiss b file r f (count + more) ≡ firstAmiss b file r f count
-  unfolding firstAmiss
-  fewer-amiss f zero more h = let e : 0 + more ≡ more = omega arith in rw e (none-amiss f more (omega arith))
-  fewer-amiss f (suc count) more h =
-      let e : suc count + more ≡ suc (count + more) = omega arith in
-      rw (e, fewer-amiss (f + 1) count more (omega arith))
-
--- all fields of a record that was cut are left at first; those that have no link behind the last that has one don't count
-pub amiss-start : (b : Batch) (file : ℕ) (s places : List ℕ) (n : ℕ) → n ≡ linksIn file
-    → firstAmiss b file (texts file s places) 1 (n + 1 - 1) ≡ fieldAmiss b file (texts file s places)
-amiss-start b file s places n e =
-    let r = texts file s places in
-    let z : n + 1 - 1 ≡ n = omega arith in
-    let l : n + (length r - n) ≡ length r = omega (arith, cut-size (fieldsOf file) s places, links-few file) in
-    rw (z, ← l) (sym (fewer-amiss b file r 1 n (length r - n) (omega arith)))
+use Rattle.recall.proofs.FieldLaws.{fields-few}
+use Rattle.recall.proofs.RecallLaws.{zeros}
 
 -- what is wrong with a field is 8 or 9
 pub amiss-nine : (b : Batch) (file : ℕ) (r : Fields) (f : ℕ) → (amiss b file r f ≡ 0 → ⊥) → (amiss b file r f ≡ 8 → ⊥) → amiss b file r f ≡ 9
@@ -94,17 +49,6 @@ amiss-nine b file r f = go (met b (linkOf file f) f r) (signFits b file (linkOf 
     go true true p q = absurd (p refl)
     go true false p q = refl
     go false s p q = absurd (q refl)
-
--- no file has more than thirteen fields in a record
-few : ℕ → Bool
-few k = leb (fieldsOf k) 13
-
-pub fields-few : (file : ℕ) → fieldsOf file ≤ 13
-unfolding few fieldsOf fieldCounts
-fields-few file =
-    either (ltb file 14)
-    (λ e. leb→le (fieldsOf file) 13 (below 14 few tt file (ltb-true file 14 e)))
-    (λ e. let z : fieldsOf file ≡ 0 = List·getD-eq-default (0 ∷ fieldCounts) 0 (ltb-false file 14 e) in omega arith)
 
 -- Files 11-13 have no keys, and there are none behind them.
 no-fields : (file : ℕ) → 10 < file → keyFields file ≡ []
@@ -152,6 +96,13 @@ module _ (file : ℕ) (s : List ℕ) (at : ℕ) (order ways : List ℕ) (q : Use
     -- what is found is the answer
     pub used-found : (r : Bool) → ((p : PlaceIn file s at) → r ≡ has file (keyOf file (recordAt file s at)) (p .past)) → Used file s at r
     used-found r e p = e p ∙ sym (key-used file (p .past) (recordAt file s at) (q .low, h))
+
+  -- none is where all are different, or where there are none
+  pub used-none : (file ≤ 10 → apart (howOf ways file) ≡ true) → Used file s at false
+  used-none a =
+      either (ltb 10 file)
+      (λ t. used-keyless (ltb-true 10 file t))
+      (λ t. let h = ltb-false 10 file t in used-apart h (a h))
 
 -- Where a file's records were gone through up to `at`, the first of the rest being record k: the first fault of the rest is the file's.
 pub record Left (b : Batch) (file : ℕ) (s : List ℕ) (at k : ℕ) : Type 0 where
@@ -298,12 +249,6 @@ pub onward-known : (b : Batch) (file : ℕ) (order ways last class new : List �
     → Known b file order ways new class
 onward-known b file order ways last class new o f k t l =
     record { sound = f; looks = record { size = k .size; routes = k .routes; lasts = l }; table = t; stops = λ e. stops-met b (o .stops (omega arith)) }
-
--- zeros and nothing else
-zeros : (n i : ℕ) → getD {A = ℕ} (replicate n 0) i 0 ≡ 0
-zeros zero i = refl
-zeros (suc n) zero = refl
-zeros (suc n) (suc i) = zeros n i
 
 -- Before any search, the place that is remembered for each file is its start.
 pub lasts-start : (b : Batch) → SoundFiles b → Lasts b (replicate 11 0)

@@ -5,8 +5,9 @@ use amiss::amiss_at;
 use file::fields_of;
 use find::used_before;
 use link::Linked;
-use link::links_in;
 use lookup::index_of;
+use recall::record_met;
+use targets::links_in;
 use thirteen::file_of;
 use walk::cut;
 ghost use mathlib.Core.Path.{_≡_};
@@ -19,8 +20,9 @@ ghost use Rattle.laws.specs.Numbered.{answered, refusedIn};
 ghost use Rattle.file.specs.Reader.{Classes};
 ghost use Rattle.rules.specs.Texts.{texts};
 ghost use Rattle.link.specs.Stage.{amiss, fieldAmiss, linkFault, linksFault, numberedLinked};
-ghost use Rattle.lookup.specs.Ways.{Ways, Looks, Lasts};
+ghost use Rattle.lookup.specs.Ways.{Ways, Looks, Lasts, howOf, apart};
 ghost use Rattle.thirteen.specs.Batch.{thirteen};
+ghost use Rattle.recall.specs.Recall.{Recalls};
 ghost use Rattle.amiss.specs.Sound.{SoundFiles, Known, Record, UsedAsked, Used};
 
 // The first field of a record with which something is wrong; 0 if there is none.
@@ -182,9 +184,10 @@ fn all_fit<'a>(
     order: &[u32],
     ways: &[usize],
     last: &mut [usize],
+    table: &mut [u64],
 ) -> bool
-    requires { ⌜ (2 ≤ file) × (file ≤ 13) × Known (thirteen (now f1) (now f2) (now f3) (now f4) (now f5) (now f6) (now f7) (now f8) (now f9) (now f10) (now f11) (now f12) (now f13)) file (now order) (now ways) (now last) (now class) ⌝ }
-    ensures { λ r. ⌜ (r ≡ true → linkFault (thirteen (now (f1 .entry)) (now (f2 .entry)) (now (f3 .entry)) (now (f4 .entry)) (now (f5 .entry)) (now (f6 .entry)) (now (f7 .entry)) (now (f8 .entry)) (now (f9 .entry)) (now (f10 .entry)) (now (f11 .entry)) (now (f12 .entry)) (now (f13 .entry))) file ≡ answered []) × Lasts (thirteen (now (f1 .entry)) (now (f2 .entry)) (now (f3 .entry)) (now (f4 .entry)) (now (f5 .entry)) (now (f6 .entry)) (now (f7 .entry)) (now (f8 .entry)) (now (f9 .entry)) (now (f10 .entry)) (now (f11 .entry)) (now (f12 .entry)) (now (f13 .entry))) (now (last .exit)) ⌝ }
+    requires { ⌜ (2 ≤ file) × (file ≤ 13) × Known (thirteen (now f1) (now f2) (now f3) (now f4) (now f5) (now f6) (now f7) (now f8) (now f9) (now f10) (now f11) (now f12) (now f13)) file (now order) (now ways) (now last) (now class) × Recalls (thirteen (now f1) (now f2) (now f3) (now f4) (now f5) (now f6) (now f7) (now f8) (now f9) (now f10) (now f11) (now f12) (now f13)) (now table) ⌝ }
+    ensures { λ r. ⌜ (r ≡ true → linkFault (thirteen (now (f1 .entry)) (now (f2 .entry)) (now (f3 .entry)) (now (f4 .entry)) (now (f5 .entry)) (now (f6 .entry)) (now (f7 .entry)) (now (f8 .entry)) (now (f9 .entry)) (now (f10 .entry)) (now (f11 .entry)) (now (f12 .entry)) (now (f13 .entry))) file ≡ answered []) × Lasts (thirteen (now (f1 .entry)) (now (f2 .entry)) (now (f3 .entry)) (now (f4 .entry)) (now (f5 .entry)) (now (f6 .entry)) (now (f7 .entry)) (now (f8 .entry)) (now (f9 .entry)) (now (f10 .entry)) (now (f11 .entry)) (now (f12 .entry)) (now (f13 .entry))) (now (last .exit)) × Recalls (thirteen (now (f1 .entry)) (now (f2 .entry)) (now (f3 .entry)) (now (f4 .entry)) (now (f5 .entry)) (now (f6 .entry)) (now (f7 .entry)) (now (f8 .entry)) (now (f9 .entry)) (now (f10 .entry)) (now (f11 .entry)) (now (f12 .entry)) (now (f13 .entry))) (now (table .exit)) ⌝ }
 {
     if file > 10 {
         return false;
@@ -202,7 +205,7 @@ fn all_fit<'a>(
     let mut i = 0;
     while i < part.len() {
         cut(s, part[i] as usize, n, class, &mut places);
-        if first_amiss(
+        if !record_met(
             file,
             s,
             &places,
@@ -223,12 +226,89 @@ fn all_fit<'a>(
             order,
             ways,
             last,
-        )
-            != 0
-        {
+            table,
+        ) {
             return false;
         }
         i += 1;
+    }
+    true
+}
+
+// Whether no two records of a file have one key: it has no keys, or its way tells that they are all different.
+fn is_apart(file: u64, ways: &[usize]) -> bool
+    requires { ⌜ 33 ≤ length (now ways) ⌝ }
+    ensures { λ r. ⌜ (r ≡ true → file ≤ 10 → apart (howOf (now (ways .entry)) file) ≡ true) ⌝ }
+{
+    if file > 10 {
+        return true;
+    }
+    let how = ways[(file as usize) * 3];
+    if how == 1 {
+        return true;
+    }
+    how == 2
+}
+
+// The same in the order of the file's records, whose keys are all different; false too where that is not known.
+fn all_met<'a>(
+    file: u64,
+    class: &[u8; 256],
+    f1: &'a [u8],
+    f2: &'a [u8],
+    f3: &'a [u8],
+    f4: &'a [u8],
+    f5: &'a [u8],
+    f6: &'a [u8],
+    f7: &'a [u8],
+    f8: &'a [u8],
+    f9: &'a [u8],
+    f10: &'a [u8],
+    f11: &'a [u8],
+    f12: &'a [u8],
+    f13: &'a [u8],
+    order: &[u32],
+    ways: &[usize],
+    last: &mut [usize],
+    table: &mut [u64],
+) -> bool
+    requires { ⌜ (2 ≤ file) × (file ≤ 13) × Known (thirteen (now f1) (now f2) (now f3) (now f4) (now f5) (now f6) (now f7) (now f8) (now f9) (now f10) (now f11) (now f12) (now f13)) file (now order) (now ways) (now last) (now class) × Recalls (thirteen (now f1) (now f2) (now f3) (now f4) (now f5) (now f6) (now f7) (now f8) (now f9) (now f10) (now f11) (now f12) (now f13)) (now table) ⌝ }
+    ensures { λ r. ⌜ (r ≡ true → linkFault (thirteen (now (f1 .entry)) (now (f2 .entry)) (now (f3 .entry)) (now (f4 .entry)) (now (f5 .entry)) (now (f6 .entry)) (now (f7 .entry)) (now (f8 .entry)) (now (f9 .entry)) (now (f10 .entry)) (now (f11 .entry)) (now (f12 .entry)) (now (f13 .entry))) file ≡ answered []) × Lasts (thirteen (now (f1 .entry)) (now (f2 .entry)) (now (f3 .entry)) (now (f4 .entry)) (now (f5 .entry)) (now (f6 .entry)) (now (f7 .entry)) (now (f8 .entry)) (now (f9 .entry)) (now (f10 .entry)) (now (f11 .entry)) (now (f12 .entry)) (now (f13 .entry))) (now (last .exit)) × Recalls (thirteen (now (f1 .entry)) (now (f2 .entry)) (now (f3 .entry)) (now (f4 .entry)) (now (f5 .entry)) (now (f6 .entry)) (now (f7 .entry)) (now (f8 .entry)) (now (f9 .entry)) (now (f10 .entry)) (now (f11 .entry)) (now (f12 .entry)) (now (f13 .entry))) (now (table .exit)) ⌝ }
+{
+    if !is_apart(file, ways) {
+        return false;
+    }
+    let s = file_of(file, f1, f2, f3, f4, f5, f6, f7, f8, f9, f10, f11, f12, f13);
+    let n = fields_of(file);
+    let mut places: [usize; 14] = [0; 14];
+    let mut at = 0;
+    while at < s.len() {
+        at = cut(s, at, n, class, &mut places);
+        if !record_met(
+            file,
+            s,
+            &places,
+            class,
+            f1,
+            f2,
+            f3,
+            f4,
+            f5,
+            f6,
+            f7,
+            f8,
+            f9,
+            f10,
+            f11,
+            f12,
+            f13,
+            order,
+            ways,
+            last,
+            table,
+        ) {
+            return false;
+        }
     }
     true
 }
@@ -341,9 +421,10 @@ fn file_fault<'a>(
     order: &[u32],
     ways: &[usize],
     last: &mut [usize],
+    table: &mut [u64],
 ) -> Linked
-    requires { ⌜ (2 ≤ file) × (file ≤ 13) × Known (thirteen (now f1) (now f2) (now f3) (now f4) (now f5) (now f6) (now f7) (now f8) (now f9) (now f10) (now f11) (now f12) (now f13)) file (now order) (now ways) (now last) (now class) ⌝ }
-    ensures { λ r. ⌜ (numberedLinked r ≡ linkFault (thirteen (now (f1 .entry)) (now (f2 .entry)) (now (f3 .entry)) (now (f4 .entry)) (now (f5 .entry)) (now (f6 .entry)) (now (f7 .entry)) (now (f8 .entry)) (now (f9 .entry)) (now (f10 .entry)) (now (f11 .entry)) (now (f12 .entry)) (now (f13 .entry))) file) × Lasts (thirteen (now (f1 .entry)) (now (f2 .entry)) (now (f3 .entry)) (now (f4 .entry)) (now (f5 .entry)) (now (f6 .entry)) (now (f7 .entry)) (now (f8 .entry)) (now (f9 .entry)) (now (f10 .entry)) (now (f11 .entry)) (now (f12 .entry)) (now (f13 .entry))) (now (last .exit)) ⌝ }
+    requires { ⌜ (2 ≤ file) × (file ≤ 13) × Known (thirteen (now f1) (now f2) (now f3) (now f4) (now f5) (now f6) (now f7) (now f8) (now f9) (now f10) (now f11) (now f12) (now f13)) file (now order) (now ways) (now last) (now class) × Recalls (thirteen (now f1) (now f2) (now f3) (now f4) (now f5) (now f6) (now f7) (now f8) (now f9) (now f10) (now f11) (now f12) (now f13)) (now table) ⌝ }
+    ensures { λ r. ⌜ (numberedLinked r ≡ linkFault (thirteen (now (f1 .entry)) (now (f2 .entry)) (now (f3 .entry)) (now (f4 .entry)) (now (f5 .entry)) (now (f6 .entry)) (now (f7 .entry)) (now (f8 .entry)) (now (f9 .entry)) (now (f10 .entry)) (now (f11 .entry)) (now (f12 .entry)) (now (f13 .entry))) file) × Lasts (thirteen (now (f1 .entry)) (now (f2 .entry)) (now (f3 .entry)) (now (f4 .entry)) (now (f5 .entry)) (now (f6 .entry)) (now (f7 .entry)) (now (f8 .entry)) (now (f9 .entry)) (now (f10 .entry)) (now (f11 .entry)) (now (f12 .entry)) (now (f13 .entry))) (now (last .exit)) × Recalls (thirteen (now (f1 .entry)) (now (f2 .entry)) (now (f3 .entry)) (now (f4 .entry)) (now (f5 .entry)) (now (f6 .entry)) (now (f7 .entry)) (now (f8 .entry)) (now (f9 .entry)) (now (f10 .entry)) (now (f11 .entry)) (now (f12 .entry)) (now (f13 .entry))) (now (table .exit)) ⌝ }
 {
     if all_fit(
         file,
@@ -364,6 +445,30 @@ fn file_fault<'a>(
         order,
         ways,
         last,
+        table,
+    ) {
+        return Linked::Sound;
+    }
+    if all_met(
+        file,
+        class,
+        f1,
+        f2,
+        f3,
+        f4,
+        f5,
+        f6,
+        f7,
+        f8,
+        f9,
+        f10,
+        f11,
+        f12,
+        f13,
+        order,
+        ways,
+        last,
+        table,
     ) {
         return Linked::Sound;
     }
@@ -420,8 +525,9 @@ fn files_fault<'a>(
     order: &[u32],
     ways: &[usize],
     last: &mut [usize],
+    table: &mut [u64],
 ) -> Linked
-    requires { ⌜ SoundFiles (thirteen (now f1) (now f2) (now f3) (now f4) (now f5) (now f6) (now f7) (now f8) (now f9) (now f10) (now f11) (now f12) (now f13)) × Looks (thirteen (now f1) (now f2) (now f3) (now f4) (now f5) (now f6) (now f7) (now f8) (now f9) (now f10) (now f11) (now f12) (now f13)) (now order) (now ways) (now last) × Classes (now class) ⌝ }
+    requires { ⌜ SoundFiles (thirteen (now f1) (now f2) (now f3) (now f4) (now f5) (now f6) (now f7) (now f8) (now f9) (now f10) (now f11) (now f12) (now f13)) × Looks (thirteen (now f1) (now f2) (now f3) (now f4) (now f5) (now f6) (now f7) (now f8) (now f9) (now f10) (now f11) (now f12) (now f13)) (now order) (now ways) (now last) × Classes (now class) × Recalls (thirteen (now f1) (now f2) (now f3) (now f4) (now f5) (now f6) (now f7) (now f8) (now f9) (now f10) (now f11) (now f12) (now f13)) (now table) ⌝ }
     ensures { λ r. ⌜ numberedLinked r ≡ linksFault (thirteen (now (f1 .entry)) (now (f2 .entry)) (now (f3 .entry)) (now (f4 .entry)) (now (f5 .entry)) (now (f6 .entry)) (now (f7 .entry)) (now (f8 .entry)) (now (f9 .entry)) (now (f10 .entry)) (now (f11 .entry)) (now (f12 .entry)) (now (f13 .entry))) ⌝ }
 {
     let mut file: u64 = 2;
@@ -445,6 +551,7 @@ fn files_fault<'a>(
             order,
             ways,
             last,
+            table,
         );
         if !is_sound(found) {
             return found;
@@ -478,6 +585,7 @@ pub fn links_fault<'a>(
     ensures { λ r. ⌜ numberedLinked r ≡ linksFault (thirteen (now (f1 .entry)) (now (f2 .entry)) (now (f3 .entry)) (now (f4 .entry)) (now (f5 .entry)) (now (f6 .entry)) (now (f7 .entry)) (now (f8 .entry)) (now (f9 .entry)) (now (f10 .entry)) (now (f11 .entry)) (now (f12 .entry)) (now (f13 .entry))) ⌝ }
 {
     let mut last: [usize; 11] = [0; 11];
+    let mut table: [u64; 4093] = [0; 4093];
     files_fault(
         class,
         f1,
@@ -496,5 +604,6 @@ pub fn links_fault<'a>(
         order,
         ways,
         &mut last,
+        &mut table,
     )
 }

@@ -1,3 +1,1 @@
 pub mod Names
-pub mod Counting
-pub mod OneResult

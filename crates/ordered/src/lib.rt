@@ -17,7 +17,7 @@ ghost use Rattle.keys.specs.Keys.{none};
 ghost use Rattle.keys.specs.Ranks.{rankOf, rankKey};
 ghost use Rattle.lines.specs.Order.{isRising, firstFrom};
 ghost use Rattle.keys.specs.KeyFiles.{KeyFile, KeysRise, PlaceIn, recordsFrom};
-ghost use Rattle.ordered.specs.Narrowing.{Narrows, Narrowed};
+ghost use Rattle.ordered.specs.Narrowing.{Sought, Narrows, Narrowed};
 
 // The place behind the record that starts at `at`.
 fn next_of(file: u64, s: &[u8], at: usize) -> usize
@@ -63,54 +63,72 @@ fn scan(file: u64, s: &[u8], from: usize, x: Key) -> usize
     at
 }
 
-// A place from lo on and before hi to look at next: as far on the way as x is between the keys that were seen below it and above it, to
-// one part in 4096; the middle, where that says nothing.
-fn guess(lo: usize, hi: usize, below: u64, above: u64, x: u64) -> usize
-    requires { ⌜ lo < hi ⌝ }
-    ensures { λ r. ⌜ (lo ≤ r) × (r < hi) ⌝ }
+// How many of 4096 parts of `all` n is.
+fn parts_of(n: u64, all: u64) -> u64
+    requires { ⌜ n < all ⌝ }
 {
-    let size = hi - lo;
-    if x <= below {
-        return lo + size / 2;
+    if all >= 4503599627370496 {
+        return n / (all / 4096 + 1);
     }
-    if above <= x {
-        return lo + size / 2;
-    }
-    let parts = (x - below) / ((above - below) / 4096 + 1);
-    if parts >= 4096 {
-        return lo + size / 2;
-    }
-    part_of_way(lo, size, parts as usize)
+    n * 4096 / all
 }
 
 // So many of 4096 parts of the way.
-fn part_of_way(lo: usize, size: usize, parts: usize) -> usize
-    requires { ⌜ (0 < size) × (lo + size < 2 ^ 64) × (parts < 4096) ⌝ }
-    ensures { λ r. ⌜ (lo ≤ r) × (r < lo + size) ⌝ }
-{
+fn part_of_way(size: usize, parts: u64) -> usize {
+    if parts >= 4096 {
+        return size;
+    }
     if size < 4096 {
-        return lo + size * parts / 4096;
+        return size * (parts as usize) / 4096;
     }
-    lo + size / 4096 * parts
+    size / 4096 * (parts as usize)
 }
 
-// Where to look next: so many looks go by the keys that were seen, the others to the middle, so that their number stays that of a bisection.
-fn next_look(lo: usize, hi: usize, below: u64, above: u64, x: u64, left: u64) -> usize
-    requires { ⌜ lo < hi ⌝ }
-    ensures { λ r. ⌜ (lo ≤ r) × (r < hi) ⌝ }
-{
-    if left == 0 {
-        return lo + (hi - lo) / 2;
-    }
-    guess(lo, hi, below, above, x)
-}
-
-// One less, as long as there is one.
-fn one_less(n: u64) -> u64 {
-    if n == 0 {
+// How far on a way of this size x is to be expected, by the keys that were seen at its two ends; the end, where none above x was seen.
+fn guess(size: usize, below: u64, above: u64, x: u64) -> usize {
+    if x <= below {
         return 0;
     }
-    n - 1
+    if above <= x {
+        return size;
+    }
+    part_of_way(size, parts_of(x - below, above - below))
+}
+
+// The nearest to n of `least` to `most`.
+fn kept(n: usize, least: usize, most: usize) -> usize
+    requires { ⌜ least ≤ most ⌝ }
+    ensures { λ r. ⌜ (least ≤ r) × (r ≤ most) ⌝ }
+{
+    if n < least {
+        return least;
+    }
+    if n > most {
+        return most;
+    }
+    n
+}
+
+// Where to look next: where x is to be expected, but so far from both ends that what is left is soon small; the middle, where there is no room for that.
+fn next_look(lo: usize, hi: usize, below: u64, above: u64, x: u64, margin: usize) -> usize
+    requires { ⌜ (lo < hi) × (0 < margin) ⌝ }
+    ensures { λ r. ⌜ (lo ≤ r) × (r < hi) ⌝ }
+{
+    let size = hi - lo;
+    if size / 4 < margin {
+        return lo + size / 2;
+    }
+    lo + kept(guess(size, below, above, x), margin, size - margin)
+}
+
+// The margin grows by half, so that the number of looks stays that of a bisection.
+fn wider(margin: usize) -> usize
+    ensures { λ r. ⌜ margin ≤ r ⌝ }
+{
+    if margin >= 4294967296 {
+        return margin;
+    }
+    margin + margin / 2
 }
 
 // What is left of a search: the record is sought from lo on, and none that starts from hi on is below it; and the keys that were seen.
@@ -163,26 +181,39 @@ fn first_key(file: u64, s: &[u8], hi: usize) -> u64
     k.hi
 }
 
-// The same of the whole file, by bisection: behind the next LF from a place on a record starts. It is expected before `hi`, where the key
-// `above` was seen; the first looks go where the keys that were seen let expect x, the others to the middle; the last few bytes are gone through.
+// The first record of the whole file whose key isn't below x, by bisection: behind the next LF from a place on a record starts. The looks go where
+// the keys that were seen let expect x; the last few bytes are gone through.
+fn narrow(file: u64, s: &[u8], from: Left, x: Key) -> usize
+    requires { ⌜ KeyFile file (now s) × KeysRise file (now s) × Sought file (now s) (rankKey x) 0 (from .lo) × (from .hi ≤ length (now s)) × (x .lo < none) ⌝ }
+    ensures { λ r. ⌜ r ≡ firstFrom (rankOf file) (rankKey x) 0 (recordsIn (fieldsOf file) (now (s .entry))) ⌝ }
+{
+    let mut left = from;
+    let mut margin: usize = 128;
+    while left.lo + 128 < left.hi {
+        let mid = next_look(left.lo, left.hi, left.below, left.above, x.hi, margin);
+        left = look(file, s, left, mid, x);
+        margin = wider(margin);
+    }
+    scan(file, s, left.lo, x)
+}
+
+// The same, expected before `hi`, where the key `above` was seen, or 0.
 fn bisect(file: u64, s: &[u8], hi: usize, above: u64, x: Key) -> usize
     requires { ⌜ KeyFile file (now s) × KeysRise file (now s) × (hi ≤ length (now s)) × (x .lo < none) ⌝ }
     ensures { λ r. ⌜ r ≡ firstFrom (rankOf file) (rankKey x) 0 (recordsIn (fieldsOf file) (now (s .entry))) ⌝ }
 {
     let below = first_key(file, s, hi);
-    let mut left = Left {
-        lo: 0,
-        hi: hi,
-        below: below,
-        above: above,
-    };
-    let mut guesses: u64 = 6;
-    while left.lo + 128 < left.hi {
-        let mid = next_look(left.lo, left.hi, left.below, left.above, x.hi, guesses);
-        left = look(file, s, left, mid, x);
-        guesses = one_less(guesses);
-    }
-    scan(file, s, left.lo, x)
+    narrow(
+        file,
+        s,
+        Left {
+            lo: 0,
+            hi: hi,
+            below: below,
+            above: above,
+        },
+        x,
+    )
 }
 
 // inner: the same, with the place that was found last and the one behind it tried first: neighbouring records ask neighbouring questions
@@ -204,8 +235,19 @@ pub fn first_from(file: u64, s: &[u8], last: usize, x: Key) -> usize
     if next >= s.len() {
         return next;
     }
-    if !less(key_at(file, s, next), x) {
+    let j = key_at(file, s, next);
+    if !less(j, x) {
         return next;
     }
-    bisect(file, s, s.len(), 0, x)
+    narrow(
+        file,
+        s,
+        Left {
+            lo: next,
+            hi: s.len(),
+            below: j.hi,
+            above: 0,
+        },
+        x,
+    )
 }

@@ -45,8 +45,8 @@ fn number_if_of_trip(file: u64, s: &[u8], at: usize, line: u64, trip: u64) -> u6
     0
 }
 
-// The start of the line that ends before `at`.
-fn line_before(s: &[u8], at: usize) -> usize
+// inner: the start of the line that ends before `at`
+pub fn line_before(s: &[u8], at: usize) -> usize
     requires { ⌜ (0 < at) × (at ≤ length (now s)) × (getD (now s) (at - 1) 0 ≡ 10) ⌝ }
     ensures { λ r. ⌜ LineBefore (now (s .entry)) at r ⌝ }
 {

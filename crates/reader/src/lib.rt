@@ -23,8 +23,8 @@ use file::text_end;
 // The greatest length of a file.
 const LONGEST: usize = 16_777_215;
 
-// Whether the byte b stands at this place.
-fn stands(s: &[u8], at: usize, b: u8) -> bool
+// inner: whether the byte b stands at this place.
+pub fn stands(s: &[u8], at: usize, b: u8) -> bool
     ensures { λ r. ⌜ (r ≡ starts b (drop at (now (s .entry)))) × (r ≡ true → at < length (now (s .entry))) ⌝ }
 {
     if at < s.len() {

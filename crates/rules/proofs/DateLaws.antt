@@ -8,8 +8,8 @@ use lib.ListN.{length, take, drop, length-drop}
 use lib.Seq.{take-all}
 use borrow.Author.Tests.{ltb-true, ltb-false, leb-true, leb-false, le-leb, lt-leb, ne-eqb}
 use Rattle.laws.specs.Tests.{either}
-use Rattle.calendar.specs.Dates.{dayNumber}
-use Rattle.calendar.specs.Real.{Real, real, years-to, months-to, month-next, month-most, number-low, number-high}
+use Rattle.dates.specs.Dates.{dayNumber}
+use Rattle.dates.specs.Real.{Real, real, years-to, months-to, month-next, month-most, number-low, number-high}
 use Rattle.file.specs.Format.{Text}
 use Rattle.field.specs.Values.{value, isDateText, dayPart, monthPart, yearPart, dayOfText}
 use Rattle.field.specs.Rules.{closes}

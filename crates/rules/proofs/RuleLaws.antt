@@ -9,7 +9,7 @@ use lib.Dec.{eqb}
 use lib.ListN.{length, getD}
 use borrow.Author.Tests.{ne-eqb, not-true, not-false}
 use Rattle.laws.specs.Tests.{both, oneOf, never, both-false}
-use Rattle.calendar.specs.Dates.{within}
+use Rattle.dates.specs.Dates.{within}
 use Rattle.file.specs.Format.{Text, Fields}
 use Rattle.field.specs.Values.{isEmpty, isByte, isDigits, value, isDateText, isTime}
 use Rattle.field.specs.Rules.{isCZ, inOrder, closes, isTimeMark, timesRule, anyGiven}

@@ -9,8 +9,8 @@ use lib.ListN.{length, getD, drop, set, replicate, length-set}
 use borrow.Author.Tests.{eq-eqb, ne-eqb, lt-ltb, le-ltb, ltb-true, ltb-false}
 use Rattle.laws.specs.Tests.{pick, oneOf, either}
 use Rattle.laws.specs.Below.{below}
-use Rattle.calendar.specs.Weeks.{weekday}
-use Rattle.calendar.specs.Signs.{isDaySign, signFits}
+use Rattle.weeks.specs.Weeks.{weekday}
+use Rattle.signs.specs.Signs.{isDaySign, signFits}
 use Rattle.file.specs.Files.{fieldsOf, fieldCounts}
 use Rattle.file.specs.Format.{Fields}
 use Rattle.file.specs.Records.{recordsIn}
@@ -22,7 +22,7 @@ use Rattle.field.specs.Values.{isEmpty, value}
 use Rattle.walk.specs.Walk.{RecordAt, Cuts}
 use Rattle.walk.proofs.WalkLaws.{cut-first}
 use Rattle.lines.proofs.LineLaws.{next-at}
-use Rattle.keys.specs.Keys.{keyFields, keyTable, third, none}
+use Rattle.keys.specs.Keys.{keyFields, keyTable, ofTrip, third, none}
 use Rattle.keys.specs.KeyFiles.{PlaceIn}
 use Rattle.keys.specs.Ranks.{recordAt}
 use Rattle.keys.proofs.KeyFileLaws.{key-here}
@@ -30,14 +30,15 @@ use Rattle.rules.specs.Texts.{texts, Kinded}
 use Rattle.link.specs.Numeric.{codeKind, CodeAt}
 use Rattle.amiss.proofs.RecordLaws.{cut-kinded}
 use Rattle.coded.specs.Ready.{Ready}
+use Rattle.coded.proofs.LeftLaws.{treads, step-mine}
 use Rattle.trail.specs.Lists.{some}
-use Rattle.trail.specs.Trail.{upward, ahead, stepOf, placeOf, Walks}
+use Rattle.trail.specs.Trail.{upward, ahead, stepOf, placeOf, Walks, Treads}
 use Rattle.trail.proofs.ListLaws.{All, all-select, all-rising}
 use Rattle.trail.proofs.TrailLaws.{ahead-begin, comes}
 use Rattle.trip.specs.Days.{typeOf, hasType, holdsDay, hasDaySign, threeWithOther, daysFit, signsAllow}
-use Rattle.trip.specs.Seen.{bit, Flags, Seen, Held, seenBehind, heldBehind, firstMark, differsFrom, marksDiffer, AllMeet}
+use Rattle.codes.specs.Seen.{bit, Flags, Seen, Held, seenBehind, heldBehind, firstMark, differsFrom, marksDiffer, AllMeet}
 use Rattle.trip.specs.View.{signsFrom}
-use Rattle.trip.proofs.SeenLaws.{flags-new, flags-seen, flags-held, seen-all, held-all}
+use Rattle.codes.proofs.SeenLaws.{flags-new, flags-seen, flags-held, seen-all, held-all}
 
 with-none : (t : Bool) → t ≡ oneOf t false
 with-none true = refl
@@ -175,6 +176,10 @@ module _ (s order ways : List ℕ) (ready : Ready timeCodesFile s order ways) wh
         pub cut-meets : meets timeCodesFile (texts timeCodesFile s places) ≡ true
         cut-meets = sym (ap (meets timeCodesFile) cut-there) ∙ meet-there timeCodesFile s at (ready .rules) p h
 
+        pub cut-treads : ofTrip timeCodesFile line trip (recordAt timeCodesFile s at) ≡ true → Treads timeCodesFile s places line trip at end
+        unfolding fieldsOf fieldCounts
+        cut-treads m = treads timeCodesFile s line trip at p h cut m
+
         left-here : leftAt s line trip at ≡ texts timeCodesFile s places ∷ ahead timeCodesFile true (third timeCodesFile (texts timeCodesFile s places) + 1) (codesIn s line trip)
         unfolding leftAt
         left-here = rw (lt-ltb at (length s) h, cut-there)
@@ -220,6 +225,7 @@ module _ (left : List Fields) (r : Fields) (rest : List Fields) (e : left ≡ r 
 -- behind all
 pub record Typing (s : List ℕ) (line trip : ℕ) (old seen : List ℕ) (first : ℕ) (differ : Bool) (near at : ℕ) : Type 0 where
   pub place : PlaceIn timeCodesFile s at
+  pub mine : at < length s → ofTrip timeCodesFile line trip (recordAt timeCodesFile s at) ≡ true
   pub stood : PlaceIn timeCodesFile s near
   pub size : length seen ≡ length old
   pub types : seenBehind seen (leftAt s line trip at) ≡ seenBehind old (codesIn s line trip)
@@ -228,6 +234,7 @@ pub record Typing (s : List ℕ) (line trip : ℕ) (old seen : List ℕ) (first 
 -- the same of the list of those that hold day d
 pub record Holding (s : List ℕ) (line trip d : ℕ) (old held : List ℕ) (at : ℕ) : Type 0 where
   pub place : PlaceIn timeCodesFile s at
+  pub mine : at < length s → ofTrip timeCodesFile line trip (recordAt timeCodesFile s at) ≡ true
   pub size : length held ≡ length old
   pub types : heldBehind d held (leftAt s line trip at) ≡ heldBehind d old (codesIn s line trip)
 
@@ -238,6 +245,7 @@ module _ (s order ways : List ℕ) (ready : Ready timeCodesFile s order ways) (l
   typing-start seen near at p e =
       let c = left-start s order ways ready line trip l t at e in record {
         place = c .0;
+        mine = step-mine timeCodesFile s order ways ready three line trip l t true 0 at e;
         stood = p;
         size = refl;
         types = ap (seenBehind seen) (c .1);
@@ -248,7 +256,7 @@ module _ (s order ways : List ℕ) (ready : Ready timeCodesFile s order ways) (l
       → Holding s line trip d held held at
   holding-start d held at e =
       let c = left-start s order ways ready line trip l t at e in
-      record { place = c .0; size = refl; types = ap (heldBehind d held) (c .1) }
+      record { place = c .0; mine = step-mine timeCodesFile s order ways ready three line trip l t true 0 at e; size = refl; types = ap (heldBehind d held) (c .1) }
 
   -- one is left, and was cut
   module _ (at : ℕ) (h : at < length s) {was places : List ℕ} {end : ℕ} (cut : Cuts 8 s at was places end) (next : ℕ)
@@ -263,6 +271,7 @@ module _ (s order ways : List ℕ) (ready : Ready timeCodesFile s order ways) (l
     typing-next old seen first differ near v k a f b g c =
         let w = left-turn s order ways ready line trip l t at (v .place) h cut next e in record {
           place = w .0;
+          mine = step-mine timeCodesFile s order ways ready three line trip l t true (third timeCodesFile (texts timeCodesFile s places) + 1) next e;
           stood = v .place;
           size = length-set seen k 1 ∙ v .size;
           types = seen-step _ _ _ (w .1) seen k a ∙ v .types;
@@ -275,6 +284,7 @@ module _ (s order ways : List ℕ) (ready : Ready timeCodesFile s order ways) (l
         let r = texts timeCodesFile s places in
         let w = left-turn s order ways ready line trip l t at (v .place) h cut next e in record {
           place = w .0;
+          mine = step-mine timeCodesFile s order ways ready three line trip l t true (third timeCodesFile (texts timeCodesFile s places) + 1) next e;
           size = ap length a ∙ held-size d held r ∙ v .size;
           types = ap (λ (x : List ℕ). heldBehind d x (leftAt s line trip next)) a ∙ held-step _ r _ (w .1) d held ∙ v .types;
         }

@@ -1,10 +1,8 @@
 // A trip's days: document 01, "Days". Its record of Spoje was cut; its time codes are walked through in Caskody, and the signs of its codes are
 // looked up in Pevnykod.
-use calendar::signs;
 use coded::code_sign;
-use trail::along;
-use trail::onward;
-use trip::codes;
+use trail::first_step;
+use trail::step_on;
 use walk::cut;
 ghost use mathlib.Core.Path.{_≡_};
 ghost use mathlib.Core.Bool.{true, false};
@@ -23,7 +21,7 @@ ghost use Rattle.rules.specs.Texts.{texts, Kinded};
 ghost use Rattle.coded.specs.Ready.{Ready};
 ghost use Rattle.trail.specs.Trail.{upward};
 ghost use Rattle.trip.specs.Days.{typeOf, holdsDay, hasDaySign, daysFit, signsAllow, codesAllow};
-ghost use Rattle.trip.specs.Seen.{seenBehind, heldBehind, firstMark, differsFrom, marksDiffer};
+ghost use Rattle.codes.specs.Seen.{seenBehind, heldBehind, firstMark, differsFrom, marksDiffer};
 ghost use Rattle.trip.specs.Stage.{tripsFile};
 ghost use Rattle.trip.specs.View.{signsFrom};
 
@@ -105,14 +103,14 @@ fn types_of(
         differ: false,
     };
     let mut near = last;
-    let mut at = along(10, f10, order, ways, last, true, line, trip, 0);
-    while at < f10.len() {
-        cut(f10, at, 8, class, &mut places);
+    let mut step = first_step(10, f10, order, ways, last, true, line, trip);
+    while step.at < f10.len() {
+        let next = cut(f10, step.at, 8, class, &mut places);
         let kind = codes::type_of(f10, &places);
         seen[kind as usize] = 1;
         m = mark_on(m, kind, f10, &places);
-        near = at;
-        at = onward(10, f10, &places, order, ways, at, true, line, trip);
+        near = step.at;
+        step = step_on(10, f10, &places, order, ways, step, next, true, line, trip);
     }
     Days {
         fit: m.differ,
@@ -178,11 +176,11 @@ fn held_on(
     ensures { λ _. ⌜ now (held .exit) ≡ heldBehind d (now (held .entry)) (upward timeCodesFile line trip (recordsIn (fieldsOf timeCodesFile) (now (f10 .entry)))) ⌝ }
 {
     let mut places: [usize; 14] = [0; 14];
-    let mut at = along(10, f10, order, ways, 0, true, line, trip, 0);
-    while at < f10.len() {
-        cut(f10, at, 8, class, &mut places);
+    let mut step = first_step(10, f10, order, ways, 0, true, line, trip);
+    while step.at < f10.len() {
+        let next = cut(f10, step.at, 8, class, &mut places);
         hold_on(f10, &places, d, held);
-        at = onward(10, f10, &places, order, ways, at, true, line, trip);
+        step = step_on(10, f10, &places, order, ways, step, next, true, line, trip);
     }
 }
 

@@ -11,7 +11,7 @@ use borrow.Author.Tests.{not-true, not-false}
 use Rattle.laws.specs.Tests.{pick, both, oneOf, either}
 use Rattle.laws.specs.Numbered.{Numbered, answered, refused}
 use Rattle.calendar.specs.Answers.{numberedDay, dayAnswer}
-use Rattle.calendar.specs.Dates.{isDate, dayNumber}
+use Rattle.dates.specs.Dates.{isDate, dayNumber}
 use Rattle.calendar.specs.Laws.{number-is-day}
 use Rattle.calendar.specs.declared.Day.{Day}
 use Rattle.file.specs.Files.{fieldsOf}
@@ -32,8 +32,8 @@ use Rattle.rules.specs.Texts.{texts}
 use Rattle.link.specs.Signs.{isIn}
 use Rattle.thirteen.specs.Batch.{Batch, recordsOf}
 use Rattle.trip.specs.Stops.{timed}
-use Rattle.trip.specs.Track.{visitOf}
-use Rattle.trip.specs.declared.course.Visit.{Visit}
+use Rattle.course.specs.Track.{visitOf}
+use Rattle.course.specs.declared.Visit.{Visit}
 use Rattle.trip.proofs.ViewLaws.{first-found}
 use Rattle.trips.specs.Plain.{plainRuns}
 use Rattle.halts.specs.Halts.{plainSigns}

@@ -9,7 +9,7 @@ use lib.ListN.{length, getD}
 use borrow.Author.Tests.{eqb-true, eq-eqb}
 use Rattle.laws.specs.Tests.{pick, both, either, clash, both-left, both-right, both-true}
 use Rattle.laws.specs.Numbered.{refused}
-use Rattle.calendar.specs.Dates.{dayNumber}
+use Rattle.dates.specs.Dates.{dayNumber}
 use Rattle.file.specs.Format.{Fields}
 use Rattle.walk.specs.declared.Found.{Found}
 use Rattle.walk.specs.declared.Found.the-variants.{At, Nothing}

@@ -6,7 +6,7 @@ use mathlib.Core.List.{List, [], _∷_}
 use lib.Dec.{eqb, ltb}
 use Rattle.laws.specs.Tests.{pick, both, oneOf}
 use Rattle.laws.specs.Numbered.{Numbered, answered, refused}
-use Rattle.calendar.specs.Dates.{isDate, dayNumber}
+use Rattle.dates.specs.Dates.{isDate, dayNumber}
 use Rattle.file.specs.Format.{Fields}
 use Rattle.field.specs.Names.{linesFile, tripStopsFile, arrival, departure}
 use Rattle.keys.specs.Keys.{has, keyOf, same}
@@ -14,7 +14,7 @@ use Rattle.link.specs.Signs.{isIn}
 use Rattle.trail.specs.Lists.{firstOr}
 use Rattle.trip.specs.Stage.{tripsFile}
 use Rattle.trip.specs.Stops.{arrives, departs, timed}
-use Rattle.trip.specs.Track.{minuteOr}
+use Rattle.course.specs.Track.{minuteOr}
 use Rattle.trips.specs.Plain.{plainRuns}
 use Rattle.halts.specs.Halts.{plainSigns}
 use Rattle.counter.specs.Plain.{tripRecord}

@@ -5,7 +5,7 @@ use mathlib.Core.List.{List, [], _∷_}
 use lib.Dec.{eqb, ltb}
 use Rattle.laws.specs.Tests.{pick, both, oneOf}
 use Rattle.laws.specs.Numbered.{Numbered, answered, refused}
-use Rattle.calendar.specs.Dates.{isDate, dayNumber}
+use Rattle.dates.specs.Dates.{isDate, dayNumber}
 use Rattle.keys.specs.Keys.{third}
 use Rattle.link.specs.Signs.{isIn}
 use Rattle.trail.specs.Lists.{some}

@@ -5,10 +5,9 @@ use calendar::day_of;
 use fault::Fault;
 use fault::is_none;
 use file::classes;
-use halts::stop_has;
+use halts::stop_marks;
 use roll::stop_of;
 use trail::by_two;
-use trip::course;
 use trips::runs::trip_runs;
 use walk::Found;
 use walk::cut;
@@ -112,21 +111,15 @@ fn served_at(
     let mut places: [usize; 14] = [0; 14];
     cut(f8, at, 10, class, &mut places);
     let v = course::visit_of(f8, &places);
-    let request = stop_has(b'$', f8, &places, f7, f3, order, ways, class);
+    let m = stop_marks(f8, &places, f7, f3, order, ways, class);
     Served {
         departs: v.departs,
         departure: v.departure,
         arrives: v.arrives,
         arrival: v.arrival,
-        no_boarding: one_of(
-            stop_has(b'(', f8, &places, f7, f3, order, ways, class),
-            request,
-        ),
-        no_leaving: one_of(
-            stop_has(b')', f8, &places, f7, f3, order, ways, class),
-            request,
-        ),
-        section: stop_has(0xA7, f8, &places, f7, f3, order, ways, class),
+        no_boarding: one_of(m.opening, m.dollar),
+        no_leaving: one_of(m.closing, m.dollar),
+        section: m.section,
     }
 }
 
@@ -223,7 +216,7 @@ fn to_stop(
     if to >= 1000000000 {
         return Sold::NoStop;
     }
-    match stop_of(to, f8, order, ways, 0, line, trip) {
+    match stop_of(to, f8, order, ways, a, line, trip) {
         Found::At(b) => {
             if !trip_runs(
                 at,

@@ -1,13 +1,13 @@
 // What C is handed of the counter's answers: number and place, and the answer's values, 0 where there is none.
+use asking::Sales;
 use checkresults::handed;
-use naming::Named;
+use named::Named;
 use sale::Sale;
 use sale::Sold;
-use sales::Sales;
 ghost use mathlib.Core.Path.{_≡_};
 ghost use Rattle.sale.specs.Answers.{numberedSold, numberedSale};
-ghost use Rattle.sales.specs.Sales.{numberedSales};
-ghost use Rattle.naming.specs.Names.{numberedNamed};
+ghost use Rattle.asking.specs.Answers.{numberedSales};
+ghost use Rattle.named.specs.Names.{numberedNamed};
 ghost use Rattle.saleresults.specs.Results.{saleResult, plainSaleResult, salesResult, stopResult, plainStopResult};
 
 #[repr(C)]

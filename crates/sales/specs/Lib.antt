@@ -1,2 +1,1 @@
 pub mod Sales
-pub mod OneResult

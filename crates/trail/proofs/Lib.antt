@@ -2,3 +2,4 @@ pub mod ListLaws
 pub mod TrailLaws
 pub mod WalkLaws
 pub mod NumberLaws
+pub mod StepLaws

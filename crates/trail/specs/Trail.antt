@@ -12,11 +12,13 @@ use Rattle.file.specs.Format.{Fields}
 use Rattle.file.specs.Records.{recordsIn}
 use Rattle.walk.specs.declared.Found.{Found}
 use Rattle.walk.specs.declared.Found.the-variants.{At, Nothing}
+use Rattle.lines.specs.Lines.{behind}
 use Rattle.keys.specs.Keys.{keyFields, keyOf, has, ofTrip, third, none, nextOf}
 use Rattle.keys.specs.KeyFiles.{KeyFile, PlaceIn}
 use Rattle.keys.specs.Ranks.{recordAt}
 use Rattle.lookup.specs.Ways.{Way, howOf, fromOf, toOf}
 use Rattle.previous.specs.Previous.{previousOf}
+use Rattle.rules.specs.Texts.{texts}
 use Rattle.trail.specs.Lists.{select, backward, rising}
 
 -- the trip's records in a file, by rising third number of their keys
@@ -57,6 +59,13 @@ pub record Walks (file : ℕ) (s order ways : List ℕ) (last : ℕ) : Type 0 wh
   pub way : Way file s order (howOf ways file) (fromOf ways file) (toOf ways file)
   pub place : PlaceIn file s last
   pub three : length (keyFields file) ≡ 3
+
+-- what a step from a record of the trip knows besides: the record was cut, and `next` is the place behind it
+pub record Treads (file : ℕ) (s places : List ℕ) (line trip at next : ℕ) : Type 0 where
+  pub within : at < length s
+  pub here : recordAt file s at ≡ texts file s places
+  pub past : next ≡ behind s at
+  pub mine : ofTrip file line trip (recordAt file s at) ≡ true
 
 -- the record that a walk comes to at `at`, if there is one: what was ahead is that record and what is ahead behind it
 pub record Comes (file : ℕ) (s : List ℕ) (up : Bool) (line trip x at : ℕ) : Type 0 where

@@ -1,23 +1,39 @@
 // A trip's records one after another, by their numbers, and a record of one file by its key: each goes the way that was made out for its file.
 use field::value_of;
-use find::next_of_trip;
 use find::with_one;
 use find::with_two;
+use following::if_of_trip;
+use following::next_of_trip;
+use hinted::lower;
+use keys::Key;
+use keys::key_at;
 use lookup::index_of;
+use previous::line_before;
 use previous::previous_of_trip;
 use walk::Found;
 use walk::part;
 ghost use mathlib.Core.Path.{_≡_};
 ghost use mathlib.Core.List.{[], _∷_};
-ghost use Prim.Native.Nat.{_≤_, _<_};
-ghost use lib.ListN.{length};
+ghost use mathlib.Core.Bool.{true};
+ghost use Prim.Native.Nat.{ℕ, _+_, _*_, _≤_, _<_};
+ghost use lib.ListN.{length, getD};
 ghost use Rattle.file.specs.Files.{fieldsOf};
 ghost use Rattle.file.specs.Records.{recordsIn};
-ghost use Rattle.keys.specs.Keys.{keyFields, none, third, firstWith};
-ghost use Rattle.keys.specs.KeyFiles.{PlaceIn};
-ghost use Rattle.lookup.specs.Ways.{Way, howOf, fromOf, toOf};
+ghost use Rattle.lines.specs.Lines.{behind};
+ghost use Rattle.keys.specs.Keys.{keyFields, none, ofTrip, third, firstWith, nextOf};
+ghost use Rattle.keys.specs.KeyFiles.{KeyFile, KeysRise, PlaceIn, IsIndex};
+ghost use Rattle.keys.specs.Ranks.{recordAt};
+ghost use Rattle.hinted.specs.Hinted.{Lower};
+ghost use Rattle.previous.specs.Previous.{previousOf};
+ghost use Rattle.lookup.specs.Ways.{Way, NoneUsed, howOf, fromOf, toOf};
 ghost use Rattle.rules.specs.Texts.{texts, Kinded};
-ghost use Rattle.trail.specs.Trail.{stepOf, placeOf, after, Walks};
+ghost use Rattle.trail.specs.Trail.{stepOf, placeOf, begin, after, Walks, Treads};
+
+// Where a walk stands, and the entry of the index that names the place: a hint for the next step, and any number where there is no index.
+pub struct Step {
+    pub at: usize,
+    pub entry: usize,
+}
 
 // The place of a record, or the end of the file.
 fn place_of(s: &[u8], found: Found) -> usize
@@ -78,6 +94,216 @@ pub fn onward(
         return along(file, s, order, ways, at, up, line, trip, number + 1);
     }
     along(file, s, order, ways, at, up, line, trip, number)
+}
+
+// Where keys rise: the record behind one of the trip's, or the one before it, if it is the trip's too.
+fn beside(file: u64, s: &[u8], at: usize, next: usize, up: bool, line: u64, trip: u64) -> Found
+    requires { ⌜ KeyFile file (now s) × (length (keyFields file) ≡ 3) × KeysRise file (now s) × PlaceIn file (now s) at × (at < length (now s)) × (next ≡ behind (now s) at) × (ofTrip file line trip (recordAt file (now s) at) ≡ true) × (line < none) × (trip < none) ⌝ }
+    ensures { λ r. ⌜ r ≡ stepOf file up line trip (after up (third file (recordAt file (now (s .entry)) at))) (recordsIn (fieldsOf file) (now (s .entry))) ⌝ }
+{
+    if up {
+        return if_of_trip(file, s, next, line, trip);
+    }
+    if at == 0 {
+        return Found::Nothing;
+    }
+    if_of_trip(file, s, line_before(s, at), line, trip)
+}
+
+// By an index: the record of entry i, if it is the trip's. Where i is the first entry from the trip's x on, that is the next record from x on.
+fn entry_from(file: u64, s: &[u8], part: &[u32], i: usize, line: u64, trip: u64) -> Step
+    requires { ⌜ KeyFile file (now s) × (length (keyFields file) ≡ 3) × IsIndex file (now s) (now part) × (line < none) × (trip < none) ⌝ }
+    ensures { λ r. ⌜ ((x : ℕ) → Lower file (now (s .entry)) (now (part .entry)) ((line * none + trip) * none + x) i → r .at ≡ placeOf (now (s .entry)) (nextOf file line trip x (recordsIn (fieldsOf file) (now (s .entry))))) ⌝ }
+{
+    if i >= part.len() {
+        return Step {
+            at: s.len(),
+            entry: i,
+        };
+    }
+    let found = if_of_trip(file, s, part[i] as usize, line, trip);
+    Step {
+        at: place_of(s, found),
+        entry: i,
+    }
+}
+
+// The same of the entry before i, where no two records have one key: that is the last record below x.
+fn entry_below(file: u64, s: &[u8], part: &[u32], i: usize, line: u64, trip: u64) -> Step
+    requires { ⌜ KeyFile file (now s) × (length (keyFields file) ≡ 3) × IsIndex file (now s) (now part) × NoneUsed file (now s) × (i ≤ length (now part)) × (line < none) × (trip < none) ⌝ }
+    ensures { λ r. ⌜ ((x : ℕ) → x ≤ none → Lower file (now (s .entry)) (now (part .entry)) ((line * none + trip) * none + x) i → r .at ≡ placeOf (now (s .entry)) (previousOf file line trip x (recordsIn (fieldsOf file) (now (s .entry))))) ⌝ }
+{
+    if i == 0 {
+        return Step {
+            at: s.len(),
+            entry: 0,
+        };
+    }
+    let found = if_of_trip(file, s, part[i - 1] as usize, line, trip);
+    Step {
+        at: place_of(s, found),
+        entry: i - 1,
+    }
+}
+
+// From the entry of one of the trip's records to the neighbouring one.
+fn next_entry(
+    file: u64,
+    s: &[u8],
+    part: &[u32],
+    entry: usize,
+    up: bool,
+    line: u64,
+    trip: u64,
+) -> Step
+    requires { ⌜ KeyFile file (now s) × (length (keyFields file) ≡ 3) × IsIndex file (now s) (now part) × NoneUsed file (now s) × (entry < length (now part)) × (ofTrip file line trip (recordAt file (now s) (getD (now part) entry 0)) ≡ true) × (line < none) × (trip < none) ⌝ }
+    ensures { λ r. ⌜ r .at ≡ placeOf (now (s .entry)) (stepOf file up line trip (after up (third file (recordAt file (now (s .entry)) (getD (now (part .entry)) entry 0)))) (recordsIn (fieldsOf file) (now (s .entry)))) ⌝ }
+{
+    if up {
+        return entry_from(file, s, part, entry + 1, line, trip);
+    }
+    entry_below(file, s, part, entry, line, trip)
+}
+
+// The entry where a walk begins.
+fn first_entry(file: u64, s: &[u8], part: &[u32], up: bool, line: u64, trip: u64) -> Step
+    requires { ⌜ KeyFile file (now s) × (length (keyFields file) ≡ 3) × IsIndex file (now s) (now part) × NoneUsed file (now s) × (line < none) × (trip < none) ⌝ }
+    ensures { λ r. ⌜ r .at ≡ placeOf (now (s .entry)) (stepOf file up line trip (begin up) (recordsIn (fieldsOf file) (now (s .entry)))) ⌝ }
+{
+    let hi = line * 1000000000 + trip;
+    if up {
+        let i = lower(file, s, part, Key { hi: hi, lo: 0 });
+        return entry_from(file, s, part, i, line, trip);
+    }
+    let i = lower(file, s, part, Key { hi: hi + 1, lo: 0 });
+    entry_below(file, s, part, i, line, trip)
+}
+
+// Whether an entry of a list names this place.
+fn names(part: &[u32], entry: usize, at: usize) -> bool
+    ensures { λ r. ⌜ (r ≡ true → (entry < length (now (part .entry))) × (getD (now (part .entry)) entry 0 ≡ at)) ⌝ }
+{
+    if entry >= part.len() {
+        return false;
+    }
+    part[entry] as usize == at
+}
+
+// The entry that names a record's place: the one that is hinted at, or else it is looked for.
+fn entry_of(file: u64, s: &[u8], part: &[u32], at: usize, entry: usize) -> usize
+    requires { ⌜ KeyFile file (now s) × (0 < length (now part) → IsIndex file (now s) (now part)) × PlaceIn file (now s) at × (at < length (now s)) ⌝ }
+{
+    if names(part, entry, at) {
+        return entry;
+    }
+    if part.len() == 0 {
+        return 0;
+    }
+    lower(file, s, part, key_at(file, s, at))
+}
+
+// A step by an index whose keys are all different.
+fn by_entry(
+    file: u64,
+    s: &[u8],
+    places: &[usize; 14],
+    order: &[u32],
+    ways: &[usize],
+    at: usize,
+    entry: usize,
+    up: bool,
+    line: u64,
+    trip: u64,
+) -> Step
+    requires { ⌜ Walks file (now s) (now order) (now ways) at × Kinded file (now s) (now places) × ((next : ℕ) × Treads file (now s) (now places) line trip at next) × (howOf (now ways) file ≡ 2) × (line < none) × (trip < none) ⌝ }
+    ensures { λ r. ⌜ r .at ≡ placeOf (now (s .entry)) (stepOf file up line trip (after up (third file (texts file (now (s .entry)) (now (places .entry))))) (recordsIn (fieldsOf file) (now (s .entry)))) ⌝ }
+{
+    let part = index_of(order, ways, file);
+    let i = entry_of(file, s, part, at, entry);
+    if names(part, i, at) {
+        return next_entry(file, s, part, i, up, line, trip);
+    }
+    Step {
+        at: onward(file, s, places, order, ways, at, up, line, trip),
+        entry: 0,
+    }
+}
+
+// inner: where a trip's walk begins
+pub fn first_step(
+    file: u64,
+    s: &[u8],
+    order: &[u32],
+    ways: &[usize],
+    last: usize,
+    up: bool,
+    line: u64,
+    trip: u64,
+) -> Step
+    requires { ⌜ Walks file (now s) (now order) (now ways) last × (line < none) × (trip < none) ⌝ }
+    ensures { λ r. ⌜ r .at ≡ placeOf (now (s .entry)) (stepOf file up line trip (begin up) (recordsIn (fieldsOf file) (now (s .entry)))) ⌝ }
+{
+    let i = (file as usize) * 3;
+    if ways[i] == 2 {
+        let part = index_of(order, ways, file);
+        if part.len() > 0 {
+            return first_entry(file, s, part, up, line, trip);
+        }
+    }
+    if up {
+        return Step {
+            at: along(file, s, order, ways, last, up, line, trip, 0),
+            entry: 0,
+        };
+    }
+    Step {
+        at: along(file, s, order, ways, last, up, line, trip, 1000000000),
+        entry: 0,
+    }
+}
+
+// inner: the same as `onward` from one of the trip's records, with no search where keys rise or an index names them one after another
+pub fn step_on(
+    file: u64,
+    s: &[u8],
+    places: &[usize; 14],
+    order: &[u32],
+    ways: &[usize],
+    from: Step,
+    next: usize,
+    up: bool,
+    line: u64,
+    trip: u64,
+) -> Step
+    requires { ⌜ Walks file (now s) (now order) (now ways) (from .at) × Kinded file (now s) (now places) × Treads file (now s) (now places) line trip (from .at) next × (line < none) × (trip < none) ⌝ }
+    ensures { λ r. ⌜ r .at ≡ placeOf (now (s .entry)) (stepOf file up line trip (after up (third file (texts file (now (s .entry)) (now (places .entry))))) (recordsIn (fieldsOf file) (now (s .entry)))) ⌝ }
+{
+    let i = (file as usize) * 3;
+    if ways[i] == 1 {
+        let found = beside(file, s, from.at, next, up, line, trip);
+        return Step {
+            at: place_of(s, found),
+            entry: 0,
+        };
+    }
+    if ways[i] == 2 {
+        return by_entry(
+            file,
+            s,
+            places,
+            order,
+            ways,
+            from.at,
+            from.entry,
+            up,
+            line,
+            trip,
+        );
+    }
+    Step {
+        at: onward(file, s, places, order, ways, from.at, up, line, trip),
+        entry: 0,
+    }
 }
 
 // inner: the first record of a file whose key is one number

@@ -9,7 +9,7 @@ use lib.Dec.{eqb, leb}
 use lib.ListN.{length, getD, List·getD-eq-default}
 use borrow.Author.Tests.{eq-eqb, ne-eqb, eqb-true, eqb-false, leb-true, leb-false, not-true}
 use Rattle.laws.specs.Tests.{pick, both, oneOf, either, never, clash, both-left, both-right}
-use Rattle.calendar.specs.Signs.{periodHolds}
+use Rattle.signs.specs.Signs.{periodHolds}
 use Rattle.file.specs.Format.{Text, Fields}
 use Rattle.field.specs.Values.{isEmpty, given, isByte, among, dayOfText}
 use Rattle.field.specs.Names.{timeCodesFile, mark, codeType, codeFrom, codeTo}
@@ -76,7 +76,7 @@ byte-size b [] e = never e
 byte-size b (x ∷ []) e = refl
 byte-size b (x ∷ y ∷ t) e = never e
 
-among-size : (bs : List ℕ) (t : Text) → among bs t ≡ true → length t ≡ 1
+pub among-size : (bs : List ℕ) (t : Text) → among bs t ≡ true → length t ≡ 1
 unfolding among
 among-size [] t e = never e
 among-size (b ∷ bs) t e = either (isByte b t) (λ p. byte-size b t p) (λ p. among-size bs t (rw p at e))

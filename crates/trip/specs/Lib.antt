@@ -2,5 +2,3 @@ pub mod Days
 pub mod Stops
 pub mod View
 pub mod Stage
-pub mod Track
-pub mod Seen

@@ -20,7 +20,7 @@ use Rattle.amiss.proofs.SoundLaws.{sound-kinds}
 use Rattle.links.proofs.KeyedLaws.{sound-key}
 use Rattle.coded.specs.Ready.{Ready}
 use Rattle.trail.proofs.TrailLaws.{once-distinct}
-use Rattle.trip.specs.Seen.{AllMeet}
+use Rattle.codes.specs.Seen.{AllMeet}
 
 -- a refusal is no answer
 no-answer : {P : Type 0} (n file k f : ℕ) → refusedIn (1 + n) file k f ≡ answered [] → P

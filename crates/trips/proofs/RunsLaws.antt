@@ -8,7 +8,7 @@ use native.Mathlib.Omega.{arith}
 use lib.Dec.{eqb}
 use lib.ListN.{length}
 use Rattle.laws.specs.Tests.{both, clash}
-use Rattle.calendar.specs.Dates.{within}
+use Rattle.dates.specs.Dates.{within}
 use Rattle.file.specs.Files.{fieldsOf, fieldCounts}
 use Rattle.file.specs.Format.{Text, Fields}
 use Rattle.file.specs.Records.{recordsIn}

@@ -1,3 +1,1 @@
-pub mod LengthLaws
-pub mod LayLaws
 pub mod LineLaws

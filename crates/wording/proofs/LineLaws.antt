@@ -15,10 +15,12 @@ use Rattle.fault.specs.OneResult.{fault-no-values}
 use Rattle.fault.specs.declared.Fault.{Fault}
 use Rattle.batch.specs.Order.{faultOf}
 use Rattle.batch.specs.Verdicts.{countsOf, verdictOf, numberedVerdict}
-use Rattle.batch.specs.declared.Counts.{Counts}
+use Rattle.counts.specs.declared.Counts.{Counts}
 use Rattle.batch.specs.declared.Verdict.{Verdict}
-use Rattle.wording.specs.declared.Place.{Place}
-use Rattle.wording.specs.Line.{acceptedLine, refusedLine, verdictLine, tooLarge, bytesTogether, programLine}
+use Rattle.phrase.specs.declared.Place.{Place}
+use Rattle.phrase.specs.Phrases.{acceptedLine, refusedLine}
+use Rattle.together.specs.Lengths.{bytesTogether}
+use Rattle.wording.specs.Line.{verdictLine, tooLarge, programLine}
 use Rattle.wording.specs.Places.{numberedPlace, Judged}
 
 -- an accepted batch

@@ -2,7 +2,7 @@
 use mathlib.Core.Path.{_≡_}
 use mathlib.Core.List.{[]}
 use Rattle.laws.specs.Numbered.{Numbered}
-use Rattle.wording.specs.declared.Place.{Place}
+use Rattle.phrase.specs.declared.Place.{Place}
 
 -- the numbers of a fault as document 01 has them: no values
 abbrev pub numberedPlace : Place → Numbered

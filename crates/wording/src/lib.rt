@@ -1,14 +1,15 @@
-// The line of the check program: document 01, "The check program and the desk host". Each text and each number is laid behind the last.
-use batch::Counts;
+// The line of the check program: document 01, "The check program and the desk host". Which words and which numbers it has.
 use batch::Verdict;
 use batch::check;
-use decimal::number;
 use fault::Fault;
 use file::Refusal;
-use thirteen::file_of;
+use phrase::Place;
+use phrase::lay;
+use phrase::lay_accepted;
+use phrase::lay_refused;
+use together::few_enough;
 ghost use mathlib.Core.Path.{_≡_};
-ghost use Prim.Native.Nat.{_+_, _≤_};
-ghost use lib.Dec.{leb};
+ghost use Prim.Native.Nat.{_≤_};
 ghost use lib.ListN.{length};
 ghost use Rattle.laws.specs.Splice.{splice};
 ghost use Rattle.laws.specs.Numbered.{refusedIn, refusedAt};
@@ -16,55 +17,8 @@ ghost use Rattle.file.specs.Answers.{numbered};
 ghost use Rattle.thirteen.specs.Batch.{thirteen};
 ghost use Rattle.fault.specs.Answers.{numberedFault};
 ghost use Rattle.batch.specs.Verdicts.{numberedVerdict};
-ghost use Rattle.wording.specs.Line.{labelled, acceptedLine, refusedLine, verdictLine, bytesTogether, programLine};
+ghost use Rattle.wording.specs.Line.{verdictLine, programLine};
 ghost use Rattle.wording.specs.Places.{numberedPlace, Judged};
-
-// The most bytes that the files have together.
-const MOST: usize = 61_440;
-
-// Lays t over d from `at` on, and answers the place after it.
-fn lay(d: &mut [u8], at: usize, t: &[u8]) -> usize
-    requires { ⌜ at + length (now t) ≤ length (now d) ⌝ }
-    ensures { λ r. ⌜ (now (d .exit) ≡ splice (now (d .entry)) at (now (t .entry))) × (r ≡ at + length (now (t .entry))) ⌝ }
-{
-    let mut i = 0;
-    while i < t.len() {
-        let o = at + i;
-        d[o] = t[i];
-        i += 1;
-    }
-    at + i
-}
-
-// A text and a number behind it: 20 digits at most.
-fn lay_number(d: &mut [u8], at: usize, t: &[u8], n: u64) -> usize
-    requires { ⌜ at + (length (now t) + 20) ≤ length (now d) ⌝ }
-    ensures { λ r. ⌜ (now (d .exit) ≡ splice (now (d .entry)) at (labelled (now (t .entry)) n)) × (r ≡ at + length (labelled (now (t .entry)) n)) × (r ≤ at + (length (now (t .entry)) + 20)) ⌝ }
-{
-    let next = lay(d, at, t);
-    number(d, next, n)
-}
-
-// The line of an accepted batch.
-fn lay_accepted(c: Counts, d: &mut [u8]) -> usize
-    requires { ⌜ 134 ≤ length (now d) ⌝ }
-    ensures { λ r. ⌜ (now (d .exit) ≡ splice (now (d .entry)) 0 (acceptedLine (c .stops) (c .lines) (c .trips) (c .«trip_stops»))) × (r ≡ length (acceptedLine (c .stops) (c .lines) (c .trips) (c .«trip_stops»))) × (r ≤ 134) ⌝ }
-{
-    let a = lay_number(d, 0, b"ACCEPTED stops ", c.stops);
-    let b = lay_number(d, a, b" lines ", c.lines);
-    let e = lay_number(d, b, b" trips ", c.trips);
-    let f = lay_number(d, e, b" trip stops ", c.trip_stops);
-    lay(d, f, b"\n")
-}
-
-// A fault's number and place.
-pub struct Place {
-    pub number: u64,
-    pub file: u64,
-    pub row: u64,
-    pub column: u64,
-    pub offset: u64,
-}
 
 // One whose place is a record, or a field of it.
 fn place_in(number: u64, file: u64, row: u64, column: u64) -> Place
@@ -124,59 +78,15 @@ fn place_of(fault: Fault) -> Place
     }
 }
 
-// The line of a fault.
-fn lay_refused(p: Place, d: &mut [u8]) -> usize
-    requires { ⌜ 134 ≤ length (now d) ⌝ }
-    ensures { λ r. ⌜ (now (d .exit) ≡ splice (now (d .entry)) 0 (refusedLine (p .number) (p .file) (p .row) (p .column) (p .offset))) × (r ≡ length (refusedLine (p .number) (p .file) (p .row) (p .column) (p .offset))) × (r ≤ 134) ⌝ }
-{
-    let a = lay_number(d, 0, b"REFUSED ", p.number);
-    let b = lay_number(d, a, b" file ", p.file);
-    let e = lay_number(d, b, b" record ", p.row);
-    let f = lay_number(d, e, b" field ", p.column);
-    let g = lay_number(d, f, b" at ", p.offset);
-    lay(d, g, b"\n")
-}
-
 // The line of a verdict.
 fn lay_verdict(v: Verdict, d: &mut [u8]) -> usize
     requires { ⌜ (134 ≤ length (now d)) × Judged (numberedVerdict v) ⌝ }
     ensures { λ r. ⌜ (now (d .exit) ≡ splice (now (d .entry)) 0 (verdictLine (numberedVerdict v))) × (r ≡ length (verdictLine (numberedVerdict v))) × (r ≤ 134) ⌝ }
 {
     match v {
-        Verdict::Accepted(c) => lay_accepted(c, d),
+        Verdict::Accepted(c) => lay_accepted(c.stops, c.lines, c.trips, c.trip_stops, d),
         Verdict::Refused(fault) => lay_refused(place_of(fault), d),
     }
-}
-
-// Whether the files have 61,440 bytes together at most.
-fn few_enough<'a>(
-    f1: &'a [u8],
-    f2: &'a [u8],
-    f3: &'a [u8],
-    f4: &'a [u8],
-    f5: &'a [u8],
-    f6: &'a [u8],
-    f7: &'a [u8],
-    f8: &'a [u8],
-    f9: &'a [u8],
-    f10: &'a [u8],
-    f11: &'a [u8],
-    f12: &'a [u8],
-    f13: &'a [u8],
-) -> bool
-    ensures { λ r. ⌜ r ≡ leb (bytesTogether (thirteen (now (f1 .entry)) (now (f2 .entry)) (now (f3 .entry)) (now (f4 .entry)) (now (f5 .entry)) (now (f6 .entry)) (now (f7 .entry)) (now (f8 .entry)) (now (f9 .entry)) (now (f10 .entry)) (now (f11 .entry)) (now (f12 .entry)) (now (f13 .entry)))) 61440 ⌝ }
-{
-    let mut file: u64 = 1;
-    let mut left = MOST;
-    while file < 14 {
-        let s = file_of(file, f1, f2, f3, f4, f5, f6, f7, f8, f9, f10, f11, f12, f13);
-        if s.len() > left {
-            return false;
-        }
-        left -= s.len();
-        file += 1;
-    }
-    true
 }
 
 // inner: lays the line of the check program at the front of d, and answers how long it is; the longest has 134 bytes

@@ -3,8 +3,8 @@ use mathlib.Core.Path.{_≡_, _∙_, sym}
 use Prim.Native.Nat.{ℕ, _+_, _-_, _≤_}
 use native.Mathlib.Omega.{arith}
 use borrow.Author.Tests.{leb-true}
-use Rattle.calendar.specs.Dates.{monthsDays, newYear, monthOf, yearOf, dayOf}
-use Rattle.calendar.specs.Real.{month-at, month-high, month-before}
+use Rattle.dates.specs.Dates.{monthsDays, newYear, monthOf, yearOf, dayOf}
+use Rattle.dates.specs.Real.{month-at, month-high, month-before}
 use Rattle.calendar.specs.Answers.{numberedDate, dateAnswer}
 use borrow.Author.Needs.{needs}
 use Rattle.calendar.proofs.date_of.Statement.{statement}

@@ -8,8 +8,8 @@ use Rattle.calling.proofs.CallingLaws.{three-numbers}
 use Rattle.calling.proofs.first_of.Statement.{statement}
 use Rattle.calling.proofs.first_of.Tie as tie
 
-along-requires : tie.Need-along-requires
-along-requires c κs =
+first-step-requires : tie.Need-first-step-requires
+first-step-requires c κs =
     let start = c .before .before .before .before in
     let a = start .args in
     let p = start .pre in
@@ -17,10 +17,10 @@ along-requires c κs =
 
 returns : tie.Need-returns
 unfolding firstPlace
-returns c = c .along .ensures ∙ rw (c .before .if1 .taken)
+returns c = c .first-step .ensures ∙ rw (c .before .if1 .taken)
 
-along-requires-2 : tie.Need-along-requires-2
-along-requires-2 c κs =
+first-step-requires-2 : tie.Need-first-step-requires-2
+first-step-requires-2 c κs =
     let start = c .before .before .before .before in
     let a = start .args in
     let p = start .pre in
@@ -28,7 +28,7 @@ along-requires-2 c κs =
 
 returns-2 : tie.Need-returns-2
 unfolding firstPlace
-returns-2 c = c .along2 .ensures ∙ rw (ne-eqb _ 1 (c .before .if1 .left))
+returns-2 c = c .first-step2 .ensures ∙ rw (ne-eqb _ 1 (c .before .if1 .left))
 
 pub first-of-spec : {M : Type 1} → statement M
-first-of-spec = tie.close (tie.spec along-requires returns along-requires-2 returns-2)
+first-of-spec = tie.close (tie.spec first-step-requires returns first-step-requires-2 returns-2)

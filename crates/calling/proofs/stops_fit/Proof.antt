@@ -6,25 +6,25 @@ use lib.ListN as list
 use Rattle.file.specs.Files.{fieldsOf, fieldCounts}
 use Rattle.calling.specs.Calling.{goesUp}
 use Rattle.coded.specs.Left.{leftAt}
-use Rattle.coded.proofs.LeftLaws.{walks, left-here, left-kinded}
+use Rattle.coded.proofs.LeftLaws.{treads, walks, left-here, left-kinded}
 use Rattle.calling.proofs.CallingLaws.{three-numbers, Passing, passing-start, passing-next, passing-less, passing-end}
 use Rattle.calling.proofs.stops_fit.Statement.{statement}
 use Rattle.calling.proofs.stops_fit.Tie as tie
 
 abbrev Inv-loop : tie.InvT-loop
-Inv-loop f8 order ways last line trip class up places₀ c₀ time₀ length₀ near₀ at₀ places c time length near at =
-    Passing f8 line trip near at c time length
+Inv-loop f8 order ways last line trip class up places₀ c₀ time₀ length₀ step₀ near₀ places c time length step near =
+    Passing f8 line trip near (step .at) c time length
 
 abbrev μ-loop : tie.MeasureT-loop
-μ-loop f8 order ways last line trip class up places₀ c₀ time₀ length₀ near₀ at₀ places c time length near at =
-    list.length (leftAt 8 f8 (goesUp trip) line trip at)
+μ-loop f8 order ways last line trip class up places₀ c₀ time₀ length₀ step₀ near₀ places c time length step near =
+    list.length (leftAt 8 f8 (goesUp trip) line trip (step .at))
 
 loop-holds : tie.Need-loop-holds Inv-loop μ-loop
 loop-holds c =
     let start = c .before .before .before .before .before in
     let a = start .args in
     let p = start .pre in
-    passing-start (now (a .f8)) (now (a .order)) (now (a .ways)) (p .0) (a .line) (a .trip) (p .2) (p .3) (a .last) _ _ (p .1) (c .before .set-out .ensures) (c .first-of .ensures)
+    passing-start (now (a .f8)) (now (a .order)) (now (a .ways)) (p .0) (a .line) (a .trip) (p .2) (p .3) _ _ (c .before .set-out .ensures) (c .first-of .ensures)
 
 -- from where a record is looked at: how the function began
 module _ (l : tie.At-loop Inv-loop μ-loop) where
@@ -34,61 +34,62 @@ module _ (l : tie.At-loop Inv-loop μ-loop) where
 cut-requires : tie.Need-cut-requires Inv-loop μ-loop
 unfolding fieldsOf fieldCounts
 cut-requires c κs =
-    let l = c .before .before in
+    let l = c .before .before .before in
     let a = start l .args in
     let p = start l .pre in
-    (left-here 8 (now (a .f8)) (now (a .order)) (now (a .ways)) (p .0) (l .loop .at) (l .loop .inv .place) (c .before .loop-test .taken), p .4)
+    (left-here 8 (now (a .f8)) (now (a .order)) (now (a .ways)) (p .0) (l .loop .step .at) (l .loop .inv .place) (c .before .if1 .taken), p .4)
 
 visit-of-requires : tie.Need-visit-of-requires Inv-loop μ-loop
 unfolding fieldsOf fieldCounts
 visit-of-requires c κs =
     let q = c .before in
-    let l = q .before .before .before in
+    let l = q .before .before .before .before in
     let a = start l .args in
     let p = start l .pre in
-    left-kinded 8 (now (a .f8)) (now (a .order)) (now (a .ways)) (p .0) (l .loop .at) (l .loop .inv .place) (q .before .before .loop-test .taken) (q .cut .ensures)
+    left-kinded 8 (now (a .f8)) (now (a .order)) (now (a .ways)) (p .0) (l .loop .step .at) (l .loop .inv .place) (q .before .before .if1 .taken) (q .cut .ensures)
 
-onward-requires : tie.Need-onward-requires Inv-loop μ-loop
+step-on-requires : tie.Need-step-on-requires Inv-loop μ-loop
 unfolding fieldsOf fieldCounts
-onward-requires c κs =
-    let q = c .before .before .before .before .before .before in
-    let l = q .before .before .before in
+step-on-requires c κs =
+    let q = c .before .before .before .before .before .before .before in
+    let l = q .before .before .before .before in
     let a = start l .args in
     let p = start l .pre in
-    (walks 8 (now (a .f8)) (now (a .order)) (now (a .ways)) (p .0) three-numbers (l .loop .at) (l .loop .inv .place), left-kinded 8 (now (a .f8)) (now (a .order)) (now (a .ways)) (p .0) (l .loop .at) (l .loop .inv .place) (q .before .before .loop-test .taken) (q .cut .ensures), p .2, p .3)
+    (walks 8 (now (a .f8)) (now (a .order)) (now (a .ways)) (p .0) three-numbers (l .loop .step .at) (l .loop .inv .place), left-kinded 8 (now (a .f8)) (now (a .order)) (now (a .ways)) (p .0) (l .loop .step .at) (l .loop .inv .place) (q .before .before .if1 .taken) (q .cut .ensures), treads 8 (now (a .f8)) (a .line) (a .trip) (l .loop .step .at) (l .loop .inv .place) (q .before .before .if1 .taken) (q .cut .ensures) (l .loop .inv .mine (q .before .before .if1 .taken)), p .2, p .3)
 
 loop-less : tie.Need-loop-less Inv-loop μ-loop
 unfolding fieldsOf fieldCounts
 loop-less c =
-    let q = c .before .before .before .before .before .before .before in
-    let l = q .before .before .before in
+    let q = c .before .before .before .before .before .before .before .before in
+    let l = q .before .before .before .before in
     let w = l .loop in
     let a = start l .args in
     let p = start l .pre in
-    passing-less (now (a .f8)) (now (a .order)) (now (a .ways)) (p .0) (a .line) (a .trip) (p .2) (p .3) (w .near) (w .at) (w .c) (w .time) (w .length) (w .inv)
-    (q .before .before .loop-test .taken) (q .cut .ensures) _ (c .onward .ensures)
+    passing-less (now (a .f8)) (now (a .order)) (now (a .ways)) (p .0) (a .line) (a .trip) (p .2) (p .3) (w .near) (w .step .at) (w .c) (w .time) (w .length) (w .inv)
+    (q .before .before .if1 .taken) (q .cut .ensures) _ (c .step-on .ensures)
 
 loop-again : tie.Need-loop-again Inv-loop μ-loop
 unfolding fieldsOf fieldCounts
 loop-again c =
-    let k = c .before .before in
+    let f = c .before .before in
+    let k = f .before in
     let v = k .before .before .before in
     let q = v .before .before in
-    let l = q .before .before .before in
+    let l = q .before .before .before .before in
     let w = l .loop in
     let a = start l .args in
     let p = start l .pre in
-    passing-next (now (a .f8)) (now (a .order)) (now (a .ways)) (p .0) (a .line) (a .trip) (p .2) (p .3) (w .near) (w .at) (w .c) (w .time) (w .length) (w .inv)
-    (q .before .before .loop-test .taken) (q .cut .ensures) _ (c .onward .ensures) _ (v .visit-of .ensures) _ (k .before .before .track-on .ensures) _ (k .before .time-on .ensures)
-    _ (k .length-on .ensures)
+    passing-next (now (a .f8)) (now (a .order)) (now (a .ways)) (p .0) (a .line) (a .trip) (p .2) (p .3) (w .near) (w .step .at) (w .c) (w .time) (w .length) (w .inv)
+    (q .before .before .if1 .taken) (q .cut .ensures) _ (c .step-on .ensures) _ (v .visit-of .ensures) _ (k .before .before .track-on .ensures) _ (k .before .time-on .ensures)
+    _ (k .length-on .ensures) _ (f .later .ensures)
 
 returns : tie.Need-returns Inv-loop μ-loop
 returns c =
-    let l = c .before .before in
+    let l = c .before .before .before in
     let w = l .loop in
     let a = start l .args in
     let p = start l .pre in
-    (passing-end (now (a .f8)) (now (a .order)) (now (a .ways)) (p .0) (a .line) (a .trip) (p .2) (p .3) (w .near) (w .at) (w .c) (w .time) (w .length) (w .inv) (c .before .loop-test .left) _ (c .course-ends .ensures), w .inv .last)
+    (passing-end (now (a .f8)) (now (a .order)) (now (a .ways)) (p .0) (a .line) (a .trip) (p .2) (p .3) (w .near) (w .step .at) (w .c) (w .time) (w .length) (w .inv) (c .before .if1 .left) _ (c .course-ends .ensures), w .inv .last)
 
 pub stops-fit-spec : {M : Type 1} → statement M
 stops-fit-spec =
@@ -104,7 +105,8 @@ stops-fit-spec =
     (λ c κs. search needs)  -- track-on-requires
     (λ c κs. search needs)  -- time-on-requires
     (λ c κs. search needs)  -- length-on-requires
-    onward-requires
+    (λ c κs. search needs)  -- later-requires
+    step-on-requires
     loop-less
     loop-again
     (λ c κs. search needs)  -- course-ends-requires

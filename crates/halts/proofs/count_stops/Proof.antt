@@ -6,22 +6,21 @@ use denote.Ref.{now}
 use lib.ListN.{length}
 use Rattle.file.specs.Files.{fieldsOf, fieldCounts}
 use Rattle.file.specs.Records.{recordsIn}
-use Rattle.keys.specs.KeyFiles.{PlaceIn}
 use Rattle.lines.proofs.LineLaws.{place-start}
 use Rattle.coded.specs.Left.{leftAt}
-use Rattle.coded.proofs.LeftLaws.{walks, left-here, left-kinded}
+use Rattle.coded.proofs.LeftLaws.{treads, walks, left-here, left-kinded}
 use Rattle.calling.specs.Calling.{travelled, goesUp}
 use Rattle.calling.proofs.CallingLaws.{three-numbers}
-use Rattle.halts.proofs.HaltLaws.{few-stops, walk-start, walk-next, walk-less, count-next, count-end}
+use Rattle.halts.proofs.HaltLaws.{On, few-stops, walk-start, walk-next, walk-less, count-next, count-end}
 use Rattle.halts.proofs.count_stops.Statement.{statement}
 use Rattle.halts.proofs.count_stops.Tie as tie
 
 abbrev Inv-loop : tie.InvT-loop
-Inv-loop f8 order ways line trip class up places₀ n₀ at₀ places n at =
-    PlaceIn 8 f8 at × (n + length (leftAt 8 f8 (goesUp trip) line trip at) ≡ length (travelled line trip (recordsIn (fieldsOf 8) f8)))
+Inv-loop f8 order ways line trip class up places₀ n₀ step₀ places n step =
+    On f8 line trip (step .at) × (n + length (leftAt 8 f8 (goesUp trip) line trip (step .at)) ≡ length (travelled line trip (recordsIn (fieldsOf 8) f8)))
 
 abbrev μ-loop : tie.MeasureT-loop
-μ-loop f8 order ways line trip class up places₀ n₀ at₀ places n at = length (leftAt 8 f8 (goesUp trip) line trip at)
+μ-loop f8 order ways line trip class up places₀ n₀ step₀ places n step = length (leftAt 8 f8 (goesUp trip) line trip (step .at))
 
 first-of-requires : tie.Need-first-of-requires Inv-loop μ-loop
 first-of-requires c κs =
@@ -45,53 +44,53 @@ module _ (l : tie.At-loop Inv-loop μ-loop) where
 cut-requires : tie.Need-cut-requires Inv-loop μ-loop
 unfolding fieldsOf fieldCounts
 cut-requires c κs =
-    let l = c .before .before in
+    let l = c .before .before .before in
     let a = start l .args in
     let p = start l .pre in
-    (left-here 8 (now (a .f8)) (now (a .order)) (now (a .ways)) (p .0) (l .loop .at) (l .loop .inv .0) (c .before .loop-test .taken), p .3)
+    (left-here 8 (now (a .f8)) (now (a .order)) (now (a .ways)) (p .0) (l .loop .step .at) (l .loop .inv .0 .place) (c .before .if1 .taken), p .3)
 
 -- no more are counted than the file has bytes
 add-n : tie.Need-add-n Inv-loop μ-loop
 add-n c =
-    let l = c .before .before .before in
+    let l = c .before .before .before .before in
     let a = start l .args in
     let p = start l .pre in
     omega (arith, l .loop .inv .1, few-stops (now (a .f8)) (a .line) (a .trip) (p .0 .key .legal))
 
-onward-requires : tie.Need-onward-requires Inv-loop μ-loop
+step-on-requires : tie.Need-step-on-requires Inv-loop μ-loop
 unfolding fieldsOf fieldCounts
-onward-requires c κs =
+step-on-requires c κs =
     let q = c .before in
-    let l = q .before .before .before in
+    let l = q .before .before .before .before in
     let a = start l .args in
     let p = start l .pre in
-    (walks 8 (now (a .f8)) (now (a .order)) (now (a .ways)) (p .0) three-numbers (l .loop .at) (l .loop .inv .0), left-kinded 8 (now (a .f8)) (now (a .order)) (now (a .ways)) (p .0) (l .loop .at) (l .loop .inv .0) (q .before .before .loop-test .taken) (q .cut .ensures), p .1, p .2)
+    (walks 8 (now (a .f8)) (now (a .order)) (now (a .ways)) (p .0) three-numbers (l .loop .step .at) (l .loop .inv .0 .place), left-kinded 8 (now (a .f8)) (now (a .order)) (now (a .ways)) (p .0) (l .loop .step .at) (l .loop .inv .0 .place) (q .before .before .if1 .taken) (q .cut .ensures), treads 8 (now (a .f8)) (a .line) (a .trip) (l .loop .step .at) (l .loop .inv .0 .place) (q .before .before .if1 .taken) (q .cut .ensures) (l .loop .inv .0 .mine (q .before .before .if1 .taken)), p .1, p .2)
 
 loop-less : tie.Need-loop-less Inv-loop μ-loop
 unfolding fieldsOf fieldCounts
 loop-less c =
     let q = c .before .before in
-    let l = q .before .before .before in
+    let l = q .before .before .before .before in
     let a = start l .args in
     let p = start l .pre in
-    walk-less (now (a .f8)) (now (a .order)) (now (a .ways)) (p .0) (a .line) (a .trip) (p .1) (p .2) (l .loop .at) (q .before .before .loop-test .taken) (q .cut .ensures) _ (c .onward .ensures)
+    walk-less (now (a .f8)) (now (a .order)) (now (a .ways)) (p .0) (a .line) (a .trip) (p .1) (p .2) (l .loop .step .at) (q .before .before .if1 .taken) (q .cut .ensures) _ (c .step-on .ensures)
 
 loop-again : tie.Need-loop-again Inv-loop μ-loop
 unfolding fieldsOf fieldCounts
 loop-again c =
     let q = c .before .before in
-    let l = q .before .before .before in
+    let l = q .before .before .before .before in
     let a = start l .args in
     let p = start l .pre in
-    let h = q .before .before .loop-test .taken in
-    (walk-next (now (a .f8)) (now (a .order)) (now (a .ways)) (p .0) (a .line) (a .trip) (p .1) (p .2) (l .loop .at) h (q .cut .ensures) _ (c .onward .ensures) .0, count-next (now (a .f8)) (now (a .order)) (now (a .ways)) (p .0) (a .line) (a .trip) (p .1) (p .2) (l .loop .at) h (q .cut .ensures) _ (c .onward .ensures) (l .loop .n) (l .loop .inv .1))
+    let h = q .before .before .if1 .taken in
+    (walk-next (now (a .f8)) (now (a .order)) (now (a .ways)) (p .0) (a .line) (a .trip) (p .1) (p .2) (l .loop .step .at) h (q .cut .ensures) _ (c .step-on .ensures) .0, count-next (now (a .f8)) (now (a .order)) (now (a .ways)) (p .0) (a .line) (a .trip) (p .1) (p .2) (l .loop .step .at) h (q .cut .ensures) _ (c .step-on .ensures) (l .loop .n) (l .loop .inv .1))
 
 returns : tie.Need-returns Inv-loop μ-loop
 returns c =
-    let l = c .before in
+    let l = c .before .before in
     let a = start l .args in
     let p = start l .pre in
-    count-end (now (a .f8)) (now (a .order)) (now (a .ways)) (p .0) (a .line) (a .trip) (p .1) (p .2) (l .loop .n) (l .loop .at) (l .loop .inv .1) (c .loop-test .left)
+    count-end (now (a .f8)) (now (a .order)) (now (a .ways)) (p .0) (a .line) (a .trip) (p .1) (p .2) (l .loop .n) (l .loop .step .at) (l .loop .inv .1) (c .if1 .left)
 
 pub count-stops-spec : {M : Type 1} → statement M
 count-stops-spec =
@@ -103,7 +102,7 @@ count-stops-spec =
     loop-holds
     cut-requires
     add-n
-    onward-requires
+    step-on-requires
     loop-less
     loop-again
     returns)

@@ -11,7 +11,7 @@ use Rattle.thirteen.specs.Batch.{thirteen}
 use Rattle.link.specs.Stage.{firstAmiss, fieldAmiss}
 use Rattle.link.proofs.MatchLaws.{links-few}
 use Rattle.amiss.proofs.RecordLaws.{record-later}
-use Rattle.links.proofs.StageLaws.{amiss-start, amiss-turn, amiss-hit, amiss-done, fields-few}
+use Rattle.recall.proofs.FieldLaws.{amiss-start, amiss-turn, amiss-hit, amiss-done, fields-few}
 use Rattle.links.proofs.first_amiss.Statement.{statement}
 use Rattle.links.proofs.first_amiss.Tie as tie
 

@@ -8,7 +8,7 @@ use Rattle.laws.specs.Numbered.{answered}
 use Rattle.thirteen.specs.Batch.{Batch, thirteen, fileIn}
 use Rattle.batch.specs.Order.{faultOf}
 use Rattle.batch.proofs.VerdictLaws.{no-fault}
-use Rattle.naming.specs.Names.{numberedNamed}
+use Rattle.named.specs.Names.{numberedNamed}
 use Rattle.naming.proofs.NameLaws.{answer-refused, answer-is, stops-ready}
 use Rattle.naming.proofs.stop_named.Statement.{statement}
 use Rattle.naming.proofs.stop_named.Tie as tie

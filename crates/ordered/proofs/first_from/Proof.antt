@@ -1,4 +1,4 @@
--- `ordered::first_from` meets its contract: where the last key isn't above x, the search starts there; else it is of the whole file.
+-- `ordered::first_from` meets its contract: where the last key isn't above x, the search starts there or behind it; else it is of what is before it.
 use mathlib.Core.Path.{sym, _∙_}
 use native.Mathlib.Omega.{arith}
 use borrow.Author.Needs.{needs}
@@ -59,6 +59,19 @@ returns-5 c =
     (k .result) (k .ensures) (n .result) (n .ensures) l in
     sought-here (a .file) (now (a .s)) (rankKey (a .x)) 0 (n .result) w (j .result) (omega arith) (j .ensures) h
 
+narrow-requires : tie.Need-narrow-requires
+narrow-requires c κs =
+    let d = c .before .before .before .before in
+    let n = d .next-of in
+    let q = d .before .before in
+    let k = q .before .before .before .key-at in
+    let p = q .before .before .before .before .before .before in
+    let a = p .args in
+    let l = ltb-true (rankKey (k .result)) (rankKey (a .x)) (sym (q .less .ensures) ∙ not-false _ (d .before .if3 .left)) in
+    let w = there-passed (a .file) (now (a .s)) (rankKey (a .x)) (a .last) (p .pre .1) (p .pre .2) (omega arith)
+    (k .result) (k .ensures) (n .result) (n .ensures) l in
+    (p .pre .0, p .pre .1, w, omega arith, p .pre .3)
+
 pub first-from-spec : {M : Type 1} → statement M
 first-from-spec =
     tie.close
@@ -76,5 +89,5 @@ first-from-spec =
     key-at-requires-2
     (λ c κs. search needs)  -- less-requires-2
     returns-5
-    (λ c κs. search needs)  -- bisect-requires-3
+    narrow-requires
     (λ c. search needs))  -- returns-6

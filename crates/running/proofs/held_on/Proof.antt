@@ -3,69 +3,69 @@
 use native.Mathlib.Omega.{arith}
 use lib.ListN.{length}
 use Rattle.lines.proofs.LineLaws.{place-start}
-use Rattle.running.proofs.RunningLaws.{leftAt, walks-at, record-there, cut-kinds, left-less, Holding, holding-start, holding-next, holding-end}
+use Rattle.running.proofs.RunningLaws.{leftAt, walks-at, record-there, cut-kinds, cut-treads, left-less, Holding, holding-start, holding-next, holding-end}
 use Rattle.running.proofs.held_on.Statement.{statement}
 use Rattle.running.proofs.held_on.Tie as tie
 
 abbrev Inv-loop : tie.InvT-loop
-Inv-loop f10 order ways line trip d class held₀ places₀ at₀ held places at = Holding f10 line trip d held₀ held at
+Inv-loop f10 order ways line trip d class held₀ places₀ step₀ held places step = Holding f10 line trip d held₀ held (step .at)
 
 abbrev μ-loop : tie.MeasureT-loop
-μ-loop f10 order ways line trip d class held₀ places₀ at₀ held places at = length (leftAt f10 line trip at)
+μ-loop f10 order ways line trip d class held₀ places₀ step₀ held places step = length (leftAt f10 line trip (step .at))
 
 -- how the function began
 module _ (l : tie.At-loop Inv-loop μ-loop) where
   abbrev start : tie.Start Inv-loop μ-loop
   start = l .before .before .before .before .before .before
 
-along-requires : tie.Need-along-requires Inv-loop μ-loop
-along-requires c κs =
+first-step-requires : tie.Need-first-step-requires Inv-loop μ-loop
+first-step-requires c κs =
     let p = c .before .before .before .before .pre in
     (walks-at _ _ _ (p .0) _ (place-start _ _ (p .0 .key .legal)), p .1, p .2)
 
 loop-holds : tie.Need-loop-holds Inv-loop μ-loop
 loop-holds c =
     let p = c .before .before .before .before .before .pre in
-    holding-start _ _ _ (p .0) _ _ (p .1) (p .2) _ _ _ (c .along .ensures)
+    holding-start _ _ _ (p .0) _ _ (p .1) (p .2) _ _ _ (c .first-step .ensures)
 
 cut-requires : tie.Need-cut-requires Inv-loop μ-loop
 cut-requires c κs =
-    let l = c .before .before in
+    let l = c .before .before .before in
     let p = start l .pre in
-    (record-there _ _ _ (p .0) _ _ (p .1) (p .2) _ (l .loop .inv .place) (c .before .loop-test .taken), p .3)
+    (record-there _ _ _ (p .0) _ _ (p .1) (p .2) _ (l .loop .inv .place) (c .before .if1 .taken), p .3)
 
 hold-on-requires : tie.Need-hold-on-requires Inv-loop μ-loop
 hold-on-requires c κs =
     let k = c .before .before in
     let q = k .before .before in
-    let l = q .before in
+    let l = q .before .before in
     let p = start l .pre in
-    (cut-kinds _ _ _ (p .0) _ _ (p .1) (p .2) _ (l .loop .inv .place) (q .loop-test .taken) (k .cut .ensures), omega (arith, l .loop .inv .size, p .4))
+    (cut-kinds _ _ _ (p .0) _ _ (p .1) (p .2) _ (l .loop .inv .place) (q .if1 .taken) (k .cut .ensures), omega (arith, l .loop .inv .size, p .4))
 
-onward-requires : tie.Need-onward-requires Inv-loop μ-loop
-onward-requires c κs =
+step-on-requires : tie.Need-step-on-requires Inv-loop μ-loop
+step-on-requires c κs =
     let k = c .before .before .before .before .before .before in
     let q = k .before .before in
-    let l = q .before in
+    let l = q .before .before in
     let p = start l .pre in
-    (walks-at _ _ _ (p .0) _ (l .loop .inv .place), cut-kinds _ _ _ (p .0) _ _ (p .1) (p .2) _ (l .loop .inv .place) (q .loop-test .taken) (k .cut .ensures), p .1, p .2)
+    (walks-at _ _ _ (p .0) _ (l .loop .inv .place), cut-kinds _ _ _ (p .0) _ _ (p .1) (p .2) _ (l .loop .inv .place) (q .if1 .taken) (k .cut .ensures), cut-treads _ _ _ (p .0) _ _ (p .1) (p .2) _ (l .loop .inv .place) (q .if1 .taken) (k .cut .ensures) (l .loop .inv .mine (q .if1 .taken)), p .1, p .2)
 
 loop-less : tie.Need-loop-less Inv-loop μ-loop
 loop-less c =
     let k = c .before .before .before .before .before .before .before in
     let q = k .before .before in
-    let l = q .before in
+    let l = q .before .before in
     let p = start l .pre in
-    left-less _ _ _ (p .0) _ _ (p .1) (p .2) _ (q .loop-test .taken) (k .cut .ensures) _ (c .onward .ensures) (l .loop .inv .place)
+    left-less _ _ _ (p .0) _ _ (p .1) (p .2) _ (q .if1 .taken) (k .cut .ensures) _ (c .step-on .ensures) (l .loop .inv .place)
 
 loop-again : tie.Need-loop-again Inv-loop μ-loop
 loop-again c =
     let m = c .before .before .before .before in
     let k = m .before .before .before in
     let q = k .before .before in
-    let l = q .before in
+    let l = q .before .before in
     let p = start l .pre in
-    holding-next _ _ _ (p .0) _ _ (p .1) (p .2) _ (q .loop-test .taken) (k .cut .ensures) _ (c .onward .ensures) _ _ _ (l .loop .inv) _ (m .hold-on .ensures)
+    holding-next _ _ _ (p .0) _ _ (p .1) (p .2) _ (q .if1 .taken) (k .cut .ensures) _ (c .step-on .ensures) _ _ _ (l .loop .inv) _ (m .hold-on .ensures)
 
 pub held-on-spec : {M : Type 1} → statement M
 held-on-spec =
@@ -73,12 +73,12 @@ held-on-spec =
     (tie.spec
     Inv-loop
     μ-loop
-    along-requires
+    first-step-requires
     loop-holds
     cut-requires
     hold-on-requires
-    onward-requires
+    step-on-requires
     loop-less
     loop-again
-    (λ c. c .before .loop .inv .size)  -- same-length
-    (λ c. let l = c .before in let p = start l .pre in holding-end _ _ _ (p .0) _ _ (p .1) (p .2) _ _ _ _ (l .loop .inv) (c .loop-test .left)))  -- returns
+    (λ c. c .before .before .loop .inv .size)  -- same-length
+    (λ c. let l = c .before .before in let p = start l .pre in holding-end _ _ _ (p .0) _ _ (p .1) (p .2) _ _ _ _ (l .loop .inv) (c .if1 .left)))  -- returns

@@ -1,5 +1,4 @@
 -- `sale::served_at` meets its contract: the record is cut, and its times and signs are read of it.
-use native.Mathlib.Omega.{arith}
 use borrow.Author.Needs.{needs}
 use denote.Ref.{now}
 use Rattle.file.specs.Files.{fieldsOf, fieldCounts}
@@ -33,48 +32,28 @@ module _ (q : tie.After-cut) where
 visit-of-requires : tie.Need-visit-of-requires
 visit-of-requires c κs = kinded (c .before)
 
-stop-has-requires : tie.Need-stop-has-requires
-stop-has-requires c κs =
+stop-marks-requires : tie.Need-stop-marks-requires
+stop-marks-requires c κs =
     let q = c .before .before .before in
     let p = start q .pre in
-    (λ z. omega arith, kinded q, p .3, p .2, p .5)
-
-stop-has-requires-2 : tie.Need-stop-has-requires-2
-stop-has-requires-2 c κs =
-    let q = c .before .before .before .before .before in
-    let p = start q .pre in
-    (λ z. omega arith, kinded q, p .3, p .2, p .5)
-
-stop-has-requires-3 : tie.Need-stop-has-requires-3
-stop-has-requires-3 c κs =
-    let q = c .before .before .before .before .before .before .before .before in
-    let p = start q .pre in
-    (λ z. omega arith, kinded q, p .3, p .2, p .5)
-
-stop-has-requires-4 : tie.Need-stop-has-requires-4
-stop-has-requires-4 c κs =
-    let q = c .before .before .before .before .before .before .before .before .before .before .before in
-    let p = start q .pre in
-    (λ z. omega arith, kinded q, p .3, p .2, p .5)
+    (kinded q, p .3, p .2, p .5)
 
 returns : tie.Need-returns
 unfolding fieldsOf fieldCounts
 returns c =
-    let g = c .before .before in
-    let l = g .before in
-    let b = l .before .before in
-    let o = b .before in
-    let r = o .before .before in
-    let v = r .before .before in
+    let b = c .before in
+    let m = b .before in
+    let v = m .before .before in
     let q = v .before .before in
     let a = start q .args in
+    let i = m .stop-marks .ensures in
     served-is (recordsIn (fieldsOf 3) (now (a .f3))) (recordsIn (fieldsOf 7) (now (a .f7))) (now (a .f8)) (a .at) (q .cut .ensures) (v .visit-of .ensures)
-    (r .stop-has .ensures)
-    (o .stop-has2 .ensures)
+    (i .dollar-is)
+    (i .opening-is)
     (b .one-of .ensures)
-    (l .stop-has3 .ensures)
-    (g .one-of2 .ensures)
-    (c .stop-has4 .ensures)
+    (i .closing-is)
+    (c .one-of2 .ensures)
+    (i .section-is)
 
 pub served-at-spec : {M : Type 1} → statement M
 served-at-spec =
@@ -82,10 +61,7 @@ served-at-spec =
     (tie.spec
     cut-requires
     visit-of-requires
-    stop-has-requires
-    stop-has-requires-2
+    stop-marks-requires
     (λ c κs. search needs)  -- one-of-requires
-    stop-has-requires-3
     (λ c κs. search needs)  -- one-of-requires-2
-    stop-has-requires-4
     returns)

@@ -6,7 +6,6 @@ use Rattle.file.specs.Files.{fieldsOf}
 use Rattle.file.specs.Format.{Fields}
 use Rattle.file.specs.Records.{recordsIn}
 use Rattle.keys.specs.Ranks.{recordAt}
-use Rattle.lines.proofs.LineLaws.{place-start}
 use Rattle.sale.specs.Answers.{numberedSold}
 use Rattle.sale.proofs.SaleLaws.{stop-large, stop-missing, stop-met, stop-here, stop-is, to-missing, to-another-day, to-placed}
 use Rattle.sale.proofs.to_stop.Statement.{statement}
@@ -50,7 +49,7 @@ stop-of-requires : tie.Need-stop-of-requires
 stop-of-requires c κs =
     let s = begin c in
     let p = s .pre in
-    (c .if1 .left, p .12, place-start (fieldsOf 8) (now (s .args .f8)) (p .12 .key .legal), p .4, p .5)
+    (c .if1 .left, p .12, p .0, p .4, p .5)
 
 returns-2 : tie.Need-returns-2
 unfolding numberedSold

@@ -1,7 +1,7 @@
 -- `saleresults::named_handed` hands on each case of the answer.
 use mathlib.Core.Path.{ap, _∙_}
 use borrow.Author.Needs.{needs}
-use Rattle.naming.specs.Names.{numberedNamed}
+use Rattle.named.specs.Names.{numberedNamed}
 use Rattle.saleresults.specs.Results.{stopResult}
 use Rattle.saleresults.proofs.RefusedLaws.{stopAt, refused-stop}
 use Rattle.saleresults.proofs.named_handed.Statement.{statement}

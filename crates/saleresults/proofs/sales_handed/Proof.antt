@@ -1,7 +1,7 @@
 -- `saleresults::sales_handed` hands on each case of the answer.
 use mathlib.Core.Path.{ap, _∙_}
 use borrow.Author.Needs.{needs}
-use Rattle.sales.specs.Sales.{numberedSales}
+use Rattle.asking.specs.Answers.{numberedSales}
 use Rattle.saleresults.specs.Results.{salesResult}
 use Rattle.saleresults.proofs.RefusedLaws.{salesAt, refused-sales}
 use Rattle.saleresults.proofs.sales_handed.Statement.{statement}

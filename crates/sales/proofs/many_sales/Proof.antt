@@ -12,7 +12,7 @@ use Rattle.batch.specs.Order.{faultOf}
 use Rattle.batch.proofs.AcceptedLaws.{standing}
 use Rattle.roll.proofs.StandingLaws.{standing-ready}
 use Rattle.sale.proofs.SaleLaws.{no-fault, lines-met}
-use Rattle.sales.proofs.SalesLaws.{fits, sales-refused, sales-no-room, sales-answered}
+use Rattle.sales.proofs.SalesLaws.{sales-refused, sales-no-room, sales-fit, sales-answered}
 use Rattle.sales.proofs.many_sales.Statement.{statement}
 use Rattle.sales.proofs.many_sales.Tie as tie
 
@@ -39,31 +39,35 @@ nothing c =
 
 returns-2 : tie.Need-returns-2
 returns-2 c =
-    let e = c .before in
+    let v = c .before in
+    let r = v .before .before in
+    let e = r .before .before in
     let s = begin (e .before .before .before) in
     let a = s .args in
-    sales-no-room (files s) (now (a .holidays)) (now (a .asked)) (now (a .list)) (nothing e) (omega (arith, c .if2))
+    sales-no-room (files s) (now (a .holidays)) (now (a .asked)) (now (a .list)) (nothing e) (v .short .given .0 .0) (rw (v .short .given .1) at (r .room-for .ensures))
 
 answer-all-requires : tie.Need-answer-all-requires
 unfolding fileIn
 answer-all-requires c κs =
-    let q = c .before .before .before in
-    let e = q .before in
+    let v = c .before .before .before .before in
+    let r = v .before .before in
+    let e = r .before .before in
     let k = e .before .before .before in
     let s = begin k in
-    let order = now (s .args .order) in
+    let a = s .args in
+    let order = now (a .order) in
     let ways = k .check-with .last .1 .1 .1 .1 .1 .1 .1 .1 .1 .1 .1 .1 .1 .1 .0 in
     let w = k .check-with .ensures .1 (nothing e) in
     let h : 33 ≤ length ways = omega (arith, k .check-with .kept .1 .1 .1 .1 .1 .1 .1 .1 .1 .1 .1 .1 .1 .1 .0) in
-    let r = standing-ready (files s) order ways (standing (files s) (nothing e)) w h in (
-      fits (now (s .args .asked)) (now (s .args .list)) (omega (arith, q .if2)),
+    let y = standing-ready (files s) order ways (standing (files s) (nothing e)) w h in (
+      sales-fit (files s) (now (a .holidays)) (now (a .asked)) (now (a .list)) (nothing e) (v .n .given .0 .0) (rw (v .n .given .1) at (r .room-for .ensures)),
       lines-met (files s) order ways (nothing e) w h,
-      r .codes,
-      r .lines,
-      r .trips,
-      r .lineStops,
-      r .tripStops,
-      r .timeCodes,
+      y .codes,
+      y .lines,
+      y .trips,
+      y .lineStops,
+      y .tripStops,
+      y .timeCodes,
       k .before .before .before .classes .ensures,
     )
 
@@ -71,11 +75,12 @@ returns-3 : tie.Need-returns-3
 unfolding fileIn
 returns-3 c =
     let m = c .before .before in
-    let q = m .before .before .before .before in
-    let e = q .before in
+    let v = m .before .before .before .before .before in
+    let r = v .before .before in
+    let e = r .before .before in
     let s = begin (e .before .before .before) in
     let a = s .args in
-    sales-answered (files s) (now (a .holidays)) (now (a .asked)) (now (a .list)) (nothing e) (omega (arith, q .if2)) (m .answer-all .ensures)
+    sales-answered (files s) (now (a .holidays)) (now (a .asked)) (now (a .list)) (nothing e) (v .n .given .0 .0) (rw (v .n .given .1) at (r .room-for .ensures)) (m .answer-all .ensures)
 
 pub many-sales-spec : {M : Type 1} → statement M
 many-sales-spec =
@@ -86,8 +91,12 @@ many-sales-spec =
     (λ c κs. search needs)  -- check-with-requires
     (λ c κs. search needs)  -- is-none-requires
     returns
-    returns-2
+    (λ c κs. search needs)  -- room-for-requires
+    (λ c. search needs)  -- enum-known-short
+    (λ c. search needs)  -- enum-known-n
     (λ c. search needs)  -- slice-aggregate-answer-all
     answer-all-requires
     (λ c. search needs)  -- same-length
+    returns-2
+    (λ c. search needs)  -- same-length-2
     returns-3)

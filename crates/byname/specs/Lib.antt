@@ -1,0 +1,2 @@
+pub mod TheOne
+pub mod Counting

@@ -1,0 +1,12 @@
+-- `course::set_out` meets its contract, member by member.
+use mathlib.Core.Path.{refl}
+use Rattle.course.specs.Track.{setOut}
+use Rattle.course.proofs.set_out.Statement.{statement}
+use Rattle.course.proofs.set_out.Tie as tie
+
+returns : tie.Need-returns
+unfolding setOut
+returns c = refl
+
+pub set-out-spec : {M : Type 1} → statement M
+set-out-spec = tie.close (tie.spec returns)

@@ -1,0 +1,87 @@
+-- A record's fields one after another: where nothing is wrong with any that has a link, nothing is wrong with the record.
+use mathlib.Core.Path.{_≡_, refl, sym}
+use mathlib.Core.Bool.{Bool, true}
+use mathlib.Core.List.{List, _∷_}
+use Prim.Native.Nat.{ℕ, zero, suc, _+_, _-_, _≤_, _<_}
+use native.Mathlib.Omega.{arith}
+use lib.Dec.{ltb, leb, leb→le}
+use lib.ListN.{length, List·getD-eq-default}
+use borrow.Author.Tests.{eq-eqb, ne-eqb, ltb-true, ltb-false}
+use Rattle.laws.specs.Below.{below}
+use Rattle.laws.specs.Tests.{either}
+use Rattle.file.specs.Files.{fieldCounts, fieldsOf}
+use Rattle.file.specs.Format.{Fields}
+use Rattle.field.specs.Kinds as kind
+use Rattle.field.specs.Kinds.{kinds, kindOf}
+use Rattle.walk.proofs.WalkLaws.{cut-size}
+use Rattle.rules.specs.Texts.{texts}
+use Rattle.keys.proofs.TableLaws.{one-of}
+use Rattle.link.specs.Links.{linksIn}
+use Rattle.link.specs.Numeric.{numeric, NumberAt}
+use Rattle.link.specs.Stage.{amiss, firstAmiss, fieldAmiss}
+use Rattle.link.proofs.MatchLaws.{free-behind, links-few}
+use Rattle.amiss.proofs.AmissLaws.{free-amiss}
+use Rattle.thirteen.specs.Batch.{Batch}
+
+-- The fields of a record from f on, of n in all.
+module _ (b : Batch) (file : ℕ) (r : Fields) (f n : ℕ) where
+  -- nothing is wrong with field f
+  pub amiss-turn : f ≤ n → amiss b file r f ≡ 0 → firstAmiss b file r f (n + 1 - f) ≡ firstAmiss b file r (f + 1) (n + 1 - (f + 1))
+  unfolding firstAmiss
+  amiss-turn h e =
+      let z : n + 1 - f ≡ suc (n + 1 - (f + 1)) = omega arith in
+      rw (z, eq-eqb (amiss b file r f) 0 e)
+
+  -- something is
+  pub amiss-hit : f ≤ n → (amiss b file r f ≡ 0 → ⊥) → firstAmiss b file r f (n + 1 - f) ≡ f
+  unfolding firstAmiss
+  amiss-hit h e =
+      let z : n + 1 - f ≡ suc (n + 1 - (f + 1)) = omega arith in
+      rw (z, ne-eqb (amiss b file r f) 0 e)
+
+  -- none are left
+  pub amiss-done : n < f → firstAmiss b file r f (n + 1 - f) ≡ 0
+  unfolding firstAmiss
+  amiss-done h = let z : n + 1 - f ≡ 0 = omega arith in rw z
+
+-- nothing is wrong with fields that have no link, so they may be left out
+module _ (b : Batch) (file : ℕ) (r : Fields) where
+  free-zero : (f : ℕ) → linksIn file < f → amiss b file r f ≡ 0
+  free-zero f h = sym (free-amiss b file f r (sym (free-behind file f h)))
+
+  none-amiss : (f more : ℕ) → linksIn file < f → firstAmiss b file r f more ≡ 0
+  unfolding firstAmiss
+  none-amiss f zero h = refl
+  none-amiss f (suc more) h = rw (eq-eqb (amiss b file r f) 0 (free-zero f h)) (none-amiss (f + 1) more (omega arith))
+
+  fewer-amiss : (f count more : ℕ) → linksIn file < f + count → firstAmiss b file r f (count + more) ≡ firstAmiss b file r f count
+  unfolding firstAmiss
+  fewer-amiss f zero more h = let e : 0 + more ≡ more = omega arith in rw e (none-amiss f more (omega arith))
+  fewer-amiss f (suc count) more h =
+      let e : suc count + more ≡ suc (count + more) = omega arith in
+      rw (e, fewer-amiss (f + 1) count more (omega arith))
+
+-- all fields of a record that was cut are left at first; those that have no link behind the last that has one don't count
+pub amiss-start : (b : Batch) (file : ℕ) (s places : List ℕ) (n : ℕ) → n ≡ linksIn file
+    → firstAmiss b file (texts file s places) 1 (n + 1 - 1) ≡ fieldAmiss b file (texts file s places)
+amiss-start b file s places n e =
+    let r = texts file s places in
+    let z : n + 1 - 1 ≡ n = omega arith in
+    let l : n + (length r - n) ≡ length r = omega (arith, cut-size (fieldsOf file) s places, links-few file) in
+    rw (z, ← l) (sym (fewer-amiss b file r 1 n (length r - n) (omega arith)))
+
+-- no file has more than thirteen fields in a record
+few : ℕ → Bool
+few k = leb (fieldsOf k) 13
+
+pub fields-few : (file : ℕ) → fieldsOf file ≤ 13
+unfolding few fieldsOf fieldCounts
+fields-few file =
+    either (ltb file 14)
+    (λ e. leb→le (fieldsOf file) 13 (below 14 few tt file (ltb-true file 14 e)))
+    (λ e. let z : fieldsOf file ≡ 0 = List·getD-eq-default (0 ∷ fieldCounts) 0 (ltb-false file 14 e) in omega arith)
+
+-- field 1 is a number in each of the files 2-13
+pub first-number : (file : ℕ) → 2 ≤ file → file ≤ 13 → NumberAt file 1
+unfolding numeric kindOf kinds kind.zastavky kind.pevnykod kind.dopravci kind.linky kind.spoje kind.zaslinky kind.zasspoje kind.udaje kind.caskody kind.altdop kind.altlinky kind.mistenky fieldsOf fieldCounts
+first-number file low high = one-of (λ (k : ℕ). NumberAt k 1) 2 12 ((refl, omega arith, omega arith), ((refl, omega arith, omega arith), ((refl, omega arith, omega arith), ((refl, omega arith, omega arith), ((refl, omega arith, omega arith), ((refl, omega arith, omega arith), ((refl, omega arith, omega arith), ((refl, omega arith, omega arith), ((refl, omega arith, omega arith), ((refl, omega arith, omega arith), ((refl, omega arith, omega arith), ((refl, omega arith, omega arith), tt)))))))))))) file low (omega arith)

@@ -345,7 +345,7 @@ opened-least [] = omega arith
 opened-least (t ∷ ts) = simp length-append (omega (arith, size-field false t, opened-least ts))
 
 -- from a place before the LF on, the same LF is the next
-lead-skip : (s : List ℕ) (at d : ℕ) → d ≤ lead (drop at s) → behind s (at + d) ≡ behind s at
+pub lead-skip : (s : List ℕ) (at d : ℕ) → d ≤ lead (drop at s) → behind s (at + d) ≡ behind s at
 lead-skip s at zero h = let e : at + 0 ≡ at = omega arith in rw e
 lead-skip s at (suc d) h =
     either (ltb at (length s))

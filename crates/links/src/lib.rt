@@ -2,6 +2,7 @@
 // signs are permitted where, stands in the crate `link`, and what is wrong with one field in `amiss`; here the batch's files are gone through in
 // document 01's order: files 2-13, record by record: the key, then fields rising, at one field 8 before 9.
 use amiss::amiss_at;
+use clip::cut;
 use file::fields_of;
 use find::used_before;
 use link::Linked;
@@ -9,7 +10,6 @@ use lookup::index_of;
 use recall::record_met;
 use targets::links_in;
 use thirteen::file_of;
-use walk::cut;
 ghost use mathlib.Core.Path.{_≡_};
 ghost use mathlib.Core.Bool.{true};
 ghost use mathlib.Core.List.{[]};

@@ -1,9 +1,9 @@
 // A trip's days: document 01, "Days". Its record of Spoje was cut; its time codes are walked through in Caskody, and the signs of its codes are
 // looked up in Pevnykod.
+use clip::cut;
 use coded::code_sign;
 use trail::first_step;
 use trail::step_on;
-use walk::cut;
 ghost use mathlib.Core.Path.{_≡_};
 ghost use mathlib.Core.Bool.{true, false};
 ghost use Prim.Native.Nat.{_≤_, _<_};

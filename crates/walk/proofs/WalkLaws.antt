@@ -103,6 +103,10 @@ module _ (n : ℕ) (s : List ℕ) (at : ℕ) (h : RecordAt n s at) where
   pub near-at : (i : ℕ) → textStart at first i + 1 ≤ length s
   near-at i = let f = opens in place-near s at first (written (f .rs)) (f .here) (omega (arith, f .shape, some)) i
 
+  -- where one behind the last text would start
+  pub end-at : textStart at first n + 1 ≡ at + length (writtenRecord first)
+  end-at = let f = opens in past-record s at first (written (f .rs)) (f .here) (omega (arith, f .shape, some)) n (f .shape)
+
   -- places that say where the texts start have cut the record
   module _ (old places : List ℕ) (m : Marked at first old places (n + 1)) where
     stands : (i : ℕ) → i < n → Stands s places i

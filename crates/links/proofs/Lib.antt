@@ -1,3 +1,1 @@
 pub mod KeyedLaws
-pub mod StageLaws
-pub mod HintLaws

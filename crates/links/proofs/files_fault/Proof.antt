@@ -9,7 +9,7 @@ use Rattle.link.specs.Stage.{numberedLinked}
 use Rattle.lookup.specs.Ways.{Lasts}
 use Rattle.thirteen.specs.Batch.{thirteen}
 use Rattle.recall.specs.Recall.{Recalls}
-use Rattle.links.proofs.StageLaws.{Onward, onward-start, onward-end, onward-stop, onward-next, onward-known}
+use Rattle.faulty.proofs.StageLaws.{Onward, onward-start, onward-end, onward-stop, onward-next, onward-known}
 use Rattle.links.proofs.files_fault.Statement.{statement}
 use Rattle.links.proofs.files_fault.Tie as tie
 

@@ -2,7 +2,7 @@
 use native.Mathlib.Omega.{arith}
 use borrow.Author.Needs.{needs}
 use Rattle.recall.proofs.RecallLaws.{recalls-zeros}
-use Rattle.links.proofs.StageLaws.{lasts-start}
+use Rattle.faulty.proofs.StageLaws.{lasts-start}
 use Rattle.links.proofs.links_fault.Statement.{statement}
 use Rattle.links.proofs.links_fault.Tie as tie
 

@@ -1,4 +1,4 @@
--- `links::all_met` meets its contract. The loop's invariant: the first fault of the records from `at` on is that of the file.
+-- `fitting::all_met` meets its contract. The loop's invariant: the first fault of the records from `at` on is that of the file.
 use mathlib.Core.Path.{_≡_, refl, sym, _∙_}
 use mathlib.Core.Bool.{false}
 use Prim.Native.Nat.{ℕ, _+_, _-_}
@@ -10,9 +10,9 @@ use Rattle.laws.specs.Tests.{never}
 use Rattle.lookup.specs.Ways.{Lasts}
 use Rattle.thirteen.specs.Batch.{thirteen}
 use Rattle.recall.specs.Recall.{Recalls}
-use Rattle.links.proofs.StageLaws.{Left, left-start, left-end, left-record, left-asked, left-known, left-next, used-none}
-use Rattle.links.proofs.all_met.Statement.{statement}
-use Rattle.links.proofs.all_met.Tie as tie
+use Rattle.faulty.proofs.StageLaws.{Left, left-start, left-end, left-record, left-asked, left-known, left-next, used-none}
+use Rattle.fitting.proofs.all_met.Statement.{statement}
+use Rattle.fitting.proofs.all_met.Tie as tie
 
 abbrev Inv-loop : tie.InvT-loop
 Inv-loop file class f1 f2 f3 f4 f5 f6 f7 f8 f9 f10 f11 f12 f13 order ways last₀ table₀ s n places₀ at₀ last table places at =

@@ -1,4 +1,4 @@
--- `links::all_fit` meets its contract. The loop's invariant: nothing is wrong with the records that the entries below i name.
+-- `fitting::all_fit` meets its contract. The loop's invariant: nothing is wrong with the records that the entries below i name.
 use mathlib.Core.Path.{_≡_, refl, _∙_}
 use Prim.Native.Nat.{ℕ, _-_}
 use native.Mathlib.Omega.{arith}
@@ -9,9 +9,9 @@ use Rattle.laws.specs.Tests.{never}
 use Rattle.lookup.specs.Ways.{Lasts}
 use Rattle.thirteen.specs.Batch.{thirteen}
 use Rattle.recall.specs.Recall.{Recalls}
-use Rattle.links.proofs.HintLaws.{Hinted, Fit, hinted, fit-all, entry-record, entry-known, fit-more}
-use Rattle.links.proofs.all_fit.Statement.{statement}
-use Rattle.links.proofs.all_fit.Tie as tie
+use Rattle.fitting.proofs.HintLaws.{Hinted, Fit, hinted, fit-all, entry-record, entry-known, fit-more}
+use Rattle.fitting.proofs.all_fit.Statement.{statement}
+use Rattle.fitting.proofs.all_fit.Tie as tie
 
 abbrev Inv-loop : tie.InvT-loop
 Inv-loop file class f1 f2 f3 f4 f5 f6 f7 f8 f9 f10 f11 f12 f13 order ways last₀ table₀ part s n places₀ i₀ last table places i =

@@ -1,4 +1,4 @@
--- `links::is_apart` meets its contract.
+-- `fitting::is_apart` meets its contract.
 use mathlib.Core.Path.{_≡_}
 use mathlib.Core.Bool.{true}
 use Prim.Native.Nat.{ℕ}
@@ -8,8 +8,8 @@ use borrow.Author.Tests.{eqb-true}
 use lib.Dec.{eqb}
 use denote.Ref.{now}
 use Rattle.lookup.specs.Ways.{howOf, apart}
-use Rattle.links.proofs.is_apart.Statement.{statement}
-use Rattle.links.proofs.is_apart.Tie as tie
+use Rattle.fitting.proofs.is_apart.Statement.{statement}
+use Rattle.fitting.proofs.is_apart.Tie as tie
 
 -- all keys are different where an index has shown it
 two-apart : (how : ℕ) → eqb how 2 ≡ true → apart how ≡ true

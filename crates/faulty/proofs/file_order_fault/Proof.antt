@@ -1,4 +1,4 @@
--- `links::file_order_fault` meets its contract. The loop's invariant: the first fault of the records from `at` on, the first of which is
+-- `faulty::file_order_fault` meets its contract. The loop's invariant: the first fault of the records from `at` on, the first of which is
 -- record k, is that of the file.
 use mathlib.Core.Path.{_≡_, refl, sym, _∙_}
 use Prim.Native.Nat.{ℕ, _-_}
@@ -8,9 +8,9 @@ use lib.ListN.{length}
 use Rattle.link.specs.Stage.{numberedLinked}
 use Rattle.lookup.specs.Ways.{Lasts}
 use Rattle.thirteen.specs.Batch.{thirteen}
-use Rattle.links.proofs.StageLaws.{Left, left-start, left-end, left-record, left-asked, left-known, left-used, left-amiss, left-next, amiss-found}
-use Rattle.links.proofs.file_order_fault.Statement.{statement}
-use Rattle.links.proofs.file_order_fault.Tie as tie
+use Rattle.faulty.proofs.StageLaws.{Left, left-start, left-end, left-record, left-asked, left-known, left-used, left-amiss, left-next, amiss-found}
+use Rattle.faulty.proofs.file_order_fault.Statement.{statement}
+use Rattle.faulty.proofs.file_order_fault.Tie as tie
 
 abbrev Inv-loop : tie.InvT-loop
 Inv-loop file class f1 f2 f3 f4 f5 f6 f7 f8 f9 f10 f11 f12 f13 order ways last₀ s n places₀ at₀ k₀ last places at k =

@@ -1,9 +1,9 @@
--- `links::is_used` meets its contract: no record of a file without keys, or whose keys are all different, has an earlier one's key.
+-- `faulty::is_used` meets its contract: no record of a file without keys, or whose keys are all different, has an earlier one's key.
 use native.Mathlib.Omega.{arith}
 use borrow.Author.Needs.{needs}
-use Rattle.links.proofs.StageLaws.{used-keyless, used-rising, used-index, used-found, way-here, serves-part}
-use Rattle.links.proofs.is_used.Statement.{statement}
-use Rattle.links.proofs.is_used.Tie as tie
+use Rattle.faulty.proofs.StageLaws.{used-keyless, used-rising, used-index, used-found, way-here, serves-part}
+use Rattle.faulty.proofs.is_used.Statement.{statement}
+use Rattle.faulty.proofs.is_used.Tie as tie
 
 returns : tie.Need-returns
 returns c =

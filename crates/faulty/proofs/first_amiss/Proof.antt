@@ -1,4 +1,4 @@
--- `links::first_amiss` meets its contract. The loop's invariant: the first field from f on with which something is wrong is the first
+-- `faulty::first_amiss` meets its contract. The loop's invariant: the first field from f on with which something is wrong is the first
 -- of all.
 use mathlib.Core.Path.{_≡_, refl, sym, _∙_}
 use Prim.Native.Nat.{_+_, _-_, _≤_}
@@ -12,8 +12,8 @@ use Rattle.link.specs.Stage.{firstAmiss, fieldAmiss}
 use Rattle.link.proofs.MatchLaws.{links-few}
 use Rattle.amiss.proofs.RecordLaws.{record-later}
 use Rattle.recall.proofs.FieldLaws.{amiss-start, amiss-turn, amiss-hit, amiss-done, fields-few}
-use Rattle.links.proofs.first_amiss.Statement.{statement}
-use Rattle.links.proofs.first_amiss.Tie as tie
+use Rattle.faulty.proofs.first_amiss.Statement.{statement}
+use Rattle.faulty.proofs.first_amiss.Tie as tie
 
 abbrev Inv-loop : tie.InvT-loop
 Inv-loop file s places class f1 f2 f3 f4 f5 f6 f7 f8 f9 f10 f11 f12 f13 order ways last₀ n f₀ last f =

@@ -1,12 +1,12 @@
--- `links::fault_at` meets its contract: what is wrong with a field is 8, or else it is 9.
+-- `faulty::fault_at` meets its contract: what is wrong with a field is 8, or else it is 9.
 use mathlib.Core.Path.{sym, ap, _∙_}
 use Prim.Native.Nat.{ℕ}
 use borrow.Author.Needs.{needs}
 use Rattle.laws.specs.Numbered.{refusedIn}
 use Rattle.link.specs.Stage.{numberedLinked}
-use Rattle.links.proofs.StageLaws.{amiss-nine}
-use Rattle.links.proofs.fault_at.Statement.{statement}
-use Rattle.links.proofs.fault_at.Tie as tie
+use Rattle.faulty.proofs.StageLaws.{amiss-nine}
+use Rattle.faulty.proofs.fault_at.Statement.{statement}
+use Rattle.faulty.proofs.fault_at.Tie as tie
 
 returns : tie.Need-returns
 unfolding numberedLinked

@@ -29,7 +29,7 @@ use Rattle.amiss.specs.Sound.{OfKind, Known, Record}
 use Rattle.amiss.proofs.SoundLaws.{sound-kinds}
 use Rattle.amiss.proofs.RecordLaws.{cut-kinded, later}
 use Rattle.recall.proofs.FieldLaws.{fields-few}
-use Rattle.links.proofs.StageLaws.{key-used}
+use Rattle.faulty.proofs.StageLaws.{key-used}
 
 -- where record i of a file starts, and what stands before it
 record Nth (file : ℕ) (s : List ℕ) (i at : ℕ) : Type 0 where

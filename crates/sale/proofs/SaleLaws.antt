@@ -45,8 +45,9 @@ use Rattle.batch.proofs.AcceptedLaws.{standing}
 use Rattle.counter.specs.Plain.{tripRecord}
 use Rattle.counter.proofs.RunsLaws.{asked}
 use Rattle.sale.specs.Answers.{saleAnswer}
-use Rattle.sale.specs.Plain.{ServedBy, stopRecord, plainSold, leftOf, soldOf, placedBetween, plainBetween, placedTo, plainTrip, plainDay, plainSale, passedFirst, LinesMet}
-use Rattle.sale.specs.declared.Served.{Served}
+use Rattle.boarding.specs.Plain.{leftOf, soldOf, passedFirst}
+use Rattle.boarding.specs.declared.Served.{Served}
+use Rattle.sale.specs.Plain.{ServedBy, stopRecord, plainSold, placedBetween, plainBetween, placedTo, plainTrip, plainDay, plainSale, LinesMet}
 use Rattle.sale.proofs.ViewOfSale.{plain-sale}
 
 -- A STOP. What was read of the record that was cut is what is known of it.
@@ -70,33 +71,7 @@ served-is codes lineStops s at c e r o b l g x =
       section-is = rw (z, x);
     }
 
--- TWO STOPS. The second has no time.
-module _ (first second : Served) where
-  module _ {t : Bool} (e : t ≡ oneOf (second .arrives) (second .departs)) where
-    pub left-untimed : not t ≡ true → refused 18 ≡ leftOf first second
-    unfolding leftOf
-    left-untimed h = rw (← e, h)
-
-    -- it has one, but a sign forbids to leave
-    pub left-barred : not t ≡ false → second .«no_leaving» ≡ true → refused 18 ≡ leftOf first second
-    unfolding leftOf
-    left-barred h k = rw (← e, h, k)
-
-    -- both have `§`, or not
-    module _ (h : not t ≡ false) (k : second .«no_leaving» ≡ false) {u : Bool} (d : u ≡ both (first .section) (second .section)) where
-      pub left-section : u ≡ true → refused 19 ≡ leftOf first second
-      unfolding leftOf
-      left-section i = rw (← e, h, k, ← d, i)
-
-      pub left-arrives : u ≡ false → second .arrives ≡ true → answered (first .departure ∷ second .arrival ∷ []) ≡ leftOf first second
-      unfolding leftOf
-      left-arrives i j = rw (← e, h, k, ← d, i, j)
-
-      pub left-departs : u ≡ false → second .arrives ≡ false → answered (first .departure ∷ second .departure ∷ []) ≡ leftOf first second
-      unfolding leftOf
-      left-departs i j = rw (← e, h, k, ← d, i, j)
-
--- what the code knows of two stops is what their records say
+-- TWO STOPS. What the code knows of them is what their records say.
 pub sold-is : (codes lineStops : List Fields) {p q : Fields} {first second : Served} → ServedBy codes lineStops p first → ServedBy codes lineStops q second
     → soldOf first second ≡ plainSold codes lineStops p q
 unfolding soldOf leftOf plainSold timed

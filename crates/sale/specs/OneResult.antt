@@ -9,9 +9,10 @@ use Rattle.laws.specs.Numbered.{Numbered}
 use Rattle.laws.specs.Settled.{OneToOne, told-back}
 use Rattle.laws.specs.Tests.{pick}
 use Rattle.fault.specs.OneResult.{caseOf, case-told, fault-no-values, fault-another}
+use Rattle.boarding.specs.Answers.{numberedSold}
+use Rattle.boarding.specs.declared.Sold.{Sold}
 use Rattle.sale.specs.declared.Sale.{Sale}
-use Rattle.sale.specs.declared.Sold.{Sold}
-use Rattle.sale.specs.Answers.{numberedSold, numberedSale}
+use Rattle.sale.specs.Answers.{numberedSale}
 
 -- the answer of this number, place and values
 saleBack : Numbered → Sale

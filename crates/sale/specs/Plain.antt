@@ -1,9 +1,8 @@
 -- The answer as the code goes about it, on the records of each file; that it is the definition's on a batch that stands is proved (proofs/).
-use Prim.Native.Nat.{ℕ, _%_}
+use Prim.Native.Nat.{ℕ}
 use mathlib.Core.Path.{_≡_}
 use mathlib.Core.Bool.{Bool, true, not}
 use mathlib.Core.List.{List, [], _∷_}
-use lib.Dec.{eqb, ltb}
 use Rattle.laws.specs.Tests.{pick, both, oneOf}
 use Rattle.laws.specs.Numbered.{Numbered, answered, refused}
 use Rattle.dates.specs.Dates.{isDate, dayNumber}
@@ -18,11 +17,8 @@ use Rattle.course.specs.Track.{minuteOr}
 use Rattle.trips.specs.Plain.{plainRuns}
 use Rattle.halts.specs.Halts.{plainSigns}
 use Rattle.counter.specs.Plain.{tripRecord}
-use Rattle.sale.specs.declared.Served.{Served}
-
--- a smaller tariff number is passed first by an odd trip, a greater one by an even
-unfoldable pub passedFirst : ℕ → ℕ → ℕ → Bool
-passedFirst trip a b = pick (eqb (trip % 2) 1) (ltb a b) (ltb b a)
+use Rattle.boarding.specs.Plain.{passedFirst}
+use Rattle.boarding.specs.declared.Served.{Served}
 
 -- the trip's record of a tariff number
 abbrev pub stopRecord : List Fields → ℕ → ℕ → ℕ → Fields
@@ -45,16 +41,6 @@ plainSold codes lineStops p q =
     (pick (oneOf (not (timed q)) (oneOf (isIn 41 (plainSigns codes lineStops q)) (isIn 36 (plainSigns codes lineStops q)))) (refused 18)
     (pick (both (isIn 0xA7 (plainSigns codes lineStops p)) (isIn 0xA7 (plainSigns codes lineStops q))) (refused 19)
     (answered (minuteOr (departure p) ∷ pick (arrives q) (minuteOr (arrival q)) (minuteOr (departure q)) ∷ []))))
-
--- the same of what the code knows of them: 18 and 19 and the answer, then with 17
-unfoldable pub leftOf : Served → Served → Numbered
-leftOf first second =
-    pick (oneOf (not (oneOf (second .arrives) (second .departs))) (second .«no_leaving»)) (refused 18)
-    (pick (both (first .section) (second .section)) (refused 19)
-    (answered (first .departure ∷ pick (second .arrives) (second .arrival) (second .departure) ∷ [])))
-
-unfoldable pub soldOf : Served → Served → Numbered
-soldOf first second = pick (oneOf (not (first .departs)) (first .«no_boarding»)) (refused 17) (leftOf first second)
 
 -- 16 on, of two records of Zasspoje
 unfoldable pub placedBetween : List Fields → List Fields → Fields → Fields → ℕ → ℕ → ℕ → Numbered

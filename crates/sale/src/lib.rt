@@ -1,5 +1,10 @@
 // The sale question: may this trip be sold from this stop to that one on this date, and at what times? Exactly, or with one numbered refusal.
 use batch::check_with;
+use boarding::Served;
+use boarding::Sold;
+use boarding::boarded_at;
+use boarding::one_of;
+use boarding::passed_first;
 use calendar::Day;
 use calendar::day_of;
 use fault::Fault;
@@ -16,7 +21,6 @@ ghost use mathlib.Core.Bool.{true};
 ghost use mathlib.Core.List.{[], _∷_};
 ghost use Prim.Native.Nat.{_≤_, _<_};
 ghost use lib.ListN.{length};
-ghost use Rattle.laws.specs.Tests.{both, oneOf};
 ghost use Rattle.file.specs.Files.{fieldsOf};
 ghost use Rattle.file.specs.Reader.{Classes};
 ghost use Rattle.file.specs.Records.{recordsIn};
@@ -28,30 +32,9 @@ ghost use Rattle.link.specs.Signs.{codesFile};
 ghost use Rattle.thirteen.specs.Batch.{thirteen};
 ghost use Rattle.coded.specs.Ready.{Ready};
 ghost use Rattle.trip.specs.Stage.{tripsFile};
-ghost use Rattle.sale.specs.Answers.{numberedSold, SaleIs};
-ghost use Rattle.sale.specs.Plain.{passedFirst, ServedBy, leftOf, soldOf, placedBetween, placedTo, plainTrip, plainDay, plainSale, LinesMet};
-
-// The answer on a batch that stands.
-pub enum Sold {
-    // 12: the date isn't real or not in 1900-2099.
-    NoDate,
-    // 13: there is no such trip.
-    NoTrip,
-    // 14: a tariff number isn't among its records.
-    NoStop,
-    // 15: it doesn't run that day.
-    NotThatDay,
-    // 16: the first stop isn't before the second in travel order.
-    NotBefore,
-    // 17: one can't board at the first stop.
-    NoBoarding,
-    // 18: one can't leave at the second.
-    NoLeaving,
-    // 19: both stops have `§`.
-    OneSection,
-    // Departure at the first stop and arrival at the second, in minutes of the day.
-    At(u64, u64),
-}
+ghost use Rattle.boarding.specs.Answers.{numberedSold};
+ghost use Rattle.sale.specs.Answers.{SaleIs};
+ghost use Rattle.sale.specs.Plain.{ServedBy, placedBetween, placedTo, plainTrip, plainDay, plainSale, LinesMet};
 
 // The answer on any batch.
 pub enum Sale {
@@ -59,40 +42,6 @@ pub enum Sale {
     Refused(Fault),
     // What is said of a batch that stands.
     Told(Sold),
-}
-
-// What a stop is to one who boards or leaves there.
-pub struct Served {
-    // Whether there is a departure, and its minute.
-    pub departs: bool,
-    pub departure: u64,
-    // The same of an arrival.
-    pub arrives: bool,
-    pub arrival: u64,
-    // Whether a sign forbids to board, to leave; whether it has `§`.
-    pub no_boarding: bool,
-    pub no_leaving: bool,
-    pub section: bool,
-}
-
-// One of the two is so.
-fn one_of(a: bool, b: bool) -> bool
-    ensures { λ r. ⌜ r ≡ oneOf a b ⌝ }
-{
-    if a {
-        return true;
-    }
-    b
-}
-
-// Both are so.
-fn both_of(a: bool, b: bool) -> bool
-    ensures { λ r. ⌜ r ≡ both a b ⌝ }
-{
-    if a {
-        return b;
-    }
-    false
 }
 
 // The stop whose record starts at a place of Zasspoje.
@@ -121,48 +70,6 @@ fn served_at(
         no_leaving: one_of(m.closing, m.dollar),
         section: m.section,
     }
-}
-
-// Whether the first of two tariff numbers is passed before the second.
-fn passed_first(trip: u64, from: u64, to: u64) -> bool
-    ensures { λ r. ⌜ r ≡ passedFirst trip from to ⌝ }
-{
-    if trip % 2 == 1 {
-        return from < to;
-    }
-    to < from
-}
-
-// 18 and 19, and the answer, for a first stop where one can board.
-fn left_at(first: Served, second: Served) -> Sold
-    ensures { λ r. ⌜ numberedSold r ≡ leftOf first second ⌝ }
-{
-    if !one_of(second.arrives, second.departs) {
-        return Sold::NoLeaving;
-    }
-    if second.no_leaving {
-        return Sold::NoLeaving;
-    }
-    if both_of(first.section, second.section) {
-        return Sold::OneSection;
-    }
-    if second.arrives {
-        return Sold::At(first.departure, second.arrival);
-    }
-    Sold::At(first.departure, second.departure)
-}
-
-// 17 to 19, and the answer.
-fn boarded_at(first: Served, second: Served) -> Sold
-    ensures { λ r. ⌜ numberedSold r ≡ soldOf first second ⌝ }
-{
-    if !first.departs {
-        return Sold::NoBoarding;
-    }
-    if first.no_boarding {
-        return Sold::NoBoarding;
-    }
-    left_at(first, second)
 }
 
 // 16 to 19, for two stops of the trip by their places in Zasspoje.

@@ -5,7 +5,7 @@ use denote.Ref.{now}
 use Rattle.file.specs.Files.{fieldsOf}
 use Rattle.file.specs.Records.{recordsIn}
 use Rattle.keys.specs.Ranks.{recordAt}
-use Rattle.sale.specs.Answers.{numberedSold}
+use Rattle.boarding.specs.Answers.{numberedSold}
 use Rattle.sale.proofs.SaleLaws.{sold-is, between-turned, between-sold}
 use Rattle.sale.proofs.between.Statement.{statement}
 use Rattle.sale.proofs.between.Tie as tie

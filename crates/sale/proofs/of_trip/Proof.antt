@@ -7,7 +7,7 @@ use Rattle.file.specs.Format.{Fields}
 use Rattle.file.specs.Records.{recordsIn}
 use Rattle.keys.specs.Ranks.{recordAt}
 use Rattle.lines.proofs.LineLaws.{place-start}
-use Rattle.sale.specs.Answers.{numberedSold}
+use Rattle.boarding.specs.Answers.{numberedSold}
 use Rattle.sale.proofs.SaleLaws.{stop-large, stop-missing, stop-met, stop-here, stop-is, trip-missing-stop, trip-placed}
 use Rattle.sale.proofs.of_trip.Statement.{statement}
 use Rattle.sale.proofs.of_trip.Tie as tie

@@ -11,7 +11,7 @@ use Rattle.lines.proofs.LineLaws.{place-start}
 use Rattle.trips.proofs.RunsLaws.{found-trip}
 use Rattle.counter.proofs.RunsLaws.{no-line, no-trip, trip-found}
 use Rattle.calls.proofs.CallsLaws.{two-numbers}
-use Rattle.sale.specs.Answers.{numberedSold}
+use Rattle.boarding.specs.Answers.{numberedSold}
 use Rattle.sale.proofs.SaleLaws.{day-missing, day-found}
 use Rattle.sale.proofs.on_day.Statement.{statement}
 use Rattle.sale.proofs.on_day.Tie as tie

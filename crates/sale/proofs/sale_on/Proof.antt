@@ -5,7 +5,7 @@ use mathlib.Core.List.{List}
 use Rattle.file.specs.Files.{fieldsOf}
 use Rattle.file.specs.Format.{Fields}
 use Rattle.file.specs.Records.{recordsIn}
-use Rattle.sale.specs.Answers.{numberedSold}
+use Rattle.boarding.specs.Answers.{numberedSold}
 use Rattle.sale.proofs.SaleLaws.{date-none, date-day, date-small, sale-no-date, sale-day}
 use Rattle.sale.proofs.sale_on.Statement.{statement}
 use Rattle.sale.proofs.sale_on.Tie as tie

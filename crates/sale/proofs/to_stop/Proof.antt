@@ -6,7 +6,7 @@ use Rattle.file.specs.Files.{fieldsOf}
 use Rattle.file.specs.Format.{Fields}
 use Rattle.file.specs.Records.{recordsIn}
 use Rattle.keys.specs.Ranks.{recordAt}
-use Rattle.sale.specs.Answers.{numberedSold}
+use Rattle.boarding.specs.Answers.{numberedSold}
 use Rattle.sale.proofs.SaleLaws.{stop-large, stop-missing, stop-met, stop-here, stop-is, to-missing, to-another-day, to-placed}
 use Rattle.sale.proofs.to_stop.Statement.{statement}
 use Rattle.sale.proofs.to_stop.Tie as tie

@@ -1,9 +1,9 @@
--- `sale::left_at` meets its contract: each return is a case of the definition.
+-- `boarding::left_at` meets its contract: each return is a case of the definition.
 use borrow.Author.Needs.{needs}
-use Rattle.sale.specs.Answers.{numberedSold}
-use Rattle.sale.proofs.SaleLaws.{left-untimed, left-barred, left-section, left-arrives, left-departs}
-use Rattle.sale.proofs.left_at.Statement.{statement}
-use Rattle.sale.proofs.left_at.Tie as tie
+use Rattle.boarding.specs.Answers.{numberedSold}
+use Rattle.boarding.proofs.LeftLaws.{left-untimed, left-barred, left-section, left-arrives, left-departs}
+use Rattle.boarding.proofs.left_at.Statement.{statement}
+use Rattle.boarding.proofs.left_at.Tie as tie
 
 returns : tie.Need-returns
 unfolding numberedSold

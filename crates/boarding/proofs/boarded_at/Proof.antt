@@ -1,9 +1,9 @@
--- `sale::boarded_at` meets its contract: one can't board, or the second stop is asked.
+-- `boarding::boarded_at` meets its contract: one can't board, or the second stop is asked.
 use borrow.Author.Needs.{needs}
-use Rattle.sale.specs.Answers.{numberedSold}
-use Rattle.sale.specs.Plain.{leftOf, soldOf}
-use Rattle.sale.proofs.boarded_at.Statement.{statement}
-use Rattle.sale.proofs.boarded_at.Tie as tie
+use Rattle.boarding.specs.Answers.{numberedSold}
+use Rattle.boarding.specs.Plain.{leftOf, soldOf}
+use Rattle.boarding.proofs.boarded_at.Statement.{statement}
+use Rattle.boarding.proofs.boarded_at.Tie as tie
 
 returns : tie.Need-returns
 unfolding numberedSold soldOf

@@ -1,8 +1,8 @@
--- `sale::passed_first` meets its contract: each branch is a case of the definition.
+-- `boarding::passed_first` meets its contract: each branch is a case of the definition.
 use Rattle.laws.specs.Tests.{tests}
-use Rattle.sale.specs.Plain.{passedFirst}
-use Rattle.sale.proofs.passed_first.Statement.{statement}
-use Rattle.sale.proofs.passed_first.Tie as tie
+use Rattle.boarding.specs.Plain.{passedFirst}
+use Rattle.boarding.proofs.passed_first.Statement.{statement}
+use Rattle.boarding.proofs.passed_first.Tie as tie
 
 returns : tie.Need-returns
 unfolding passedFirst

@@ -9,10 +9,10 @@ use Rattle.laws.specs.Numbered.{Numbered}
 use Rattle.laws.specs.Settled.{OneToOne, told-back}
 use Rattle.laws.specs.Tests.{pick}
 use Rattle.fault.specs.OneResult.{caseOf, case-told, fault-no-values, fault-another}
-use Rattle.calls.specs.Numbers.{numberedStop}
-use Rattle.calls.specs.Plain.{haltNumbers}
-use Rattle.calls.specs.declared.Halt.{Halt}
-use Rattle.calls.specs.declared.Stop.{Stop}
+use Rattle.stopping.specs.Numbers.{numberedStop}
+use Rattle.stopping.specs.Plain.{haltNumbers}
+use Rattle.stopping.specs.declared.Halt.{Halt}
+use Rattle.stopping.specs.declared.Stop.{Stop}
 
 -- a stop by its numbers
 haltBack : List ℕ → Halt

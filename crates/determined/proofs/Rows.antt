@@ -16,7 +16,7 @@ use Rattle.counter.specs.Answers.{runsAnswer}
 use Rattle.counter.specs.Numbers.{numberedRuns}
 use Rattle.counter.specs.OneResult.{runs-one}
 use Rattle.calls.specs.Answers.{stopAnswer}
-use Rattle.calls.specs.Numbers.{numberedStop}
+use Rattle.stopping.specs.Numbers.{numberedStop}
 use Rattle.calls.specs.OneResult.{stop-one}
 use Rattle.sale.specs.Answers.{numberedSale, saleAnswer}
 use Rattle.sale.specs.OneResult.{sale-one}

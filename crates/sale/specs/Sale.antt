@@ -11,7 +11,7 @@ use Rattle.link.specs.Signs.{isIn}
 use Rattle.trail.specs.Lists.{some}
 use Rattle.trip.specs.Stops.{arrives, departs, timed}
 use Rattle.trip.specs.View.{Signed, View, numbered, stopsOf, stopSigns, runsOn}
-use Rattle.calls.specs.Halt.{stopAt, arrivalOf, departureOf}
+use Rattle.stopping.specs.Halt.{stopAt, arrivalOf, departureOf}
 
 -- a trip of this number is among the line's
 unfoldable pub hasTrip : View → ℕ → Bool

@@ -1,8 +1,8 @@
 -- `tripresults::stop_handed` hands on each case of the answer.
 use mathlib.Core.Path.{ap, _∙_}
 use borrow.Author.Needs.{needs}
-use Rattle.calls.specs.Numbers.{numberedStop}
-use Rattle.calls.specs.Plain.{haltNumbers}
+use Rattle.stopping.specs.Numbers.{numberedStop}
+use Rattle.stopping.specs.Plain.{haltNumbers}
 use Rattle.tripresults.specs.Results.{stopResult}
 use Rattle.tripresults.proofs.RefusedLaws.{stopAtPlace, refused-stop}
 use Rattle.tripresults.proofs.stop_handed.Statement.{statement}

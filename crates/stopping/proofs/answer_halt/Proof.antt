@@ -1,14 +1,14 @@
--- `calls::answer_halt` meets its contract: the walk comes to the nth stop's record, or to the end of the file.
+-- `stopping::answer_halt` meets its contract: the walk comes to the nth stop's record, or to the end of the file.
 use borrow.Author.Needs.{needs}
 use denote.Ref.{now}
 use Rattle.file.specs.Answers.{numbered}
 use Rattle.file.specs.Files.{fieldsOf}
 use Rattle.file.specs.Records.{recordsIn}
 use Rattle.fault.specs.Answers.{numberedFault}
-use Rattle.calls.specs.Numbers.{numberedStop}
-use Rattle.calls.proofs.CallsLaws.{nth-zero, nth-none, nth-there}
-use Rattle.calls.proofs.answer_halt.Statement.{statement}
-use Rattle.calls.proofs.answer_halt.Tie as tie
+use Rattle.stopping.specs.Numbers.{numberedStop}
+use Rattle.stopping.proofs.StoppingLaws.{nth-zero, nth-none, nth-there}
+use Rattle.stopping.proofs.answer_halt.Statement.{statement}
+use Rattle.stopping.proofs.answer_halt.Tie as tie
 
 returns : tie.Need-returns
 unfolding numberedStop numberedFault numbered

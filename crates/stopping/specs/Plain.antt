@@ -17,8 +17,8 @@ use Rattle.trip.specs.Stops.{arrives, departs, timed}
 use Rattle.course.specs.Track.{minuteOr}
 use Rattle.calling.specs.Calling.{travelled}
 use Rattle.halts.specs.Halts.{plainSigns}
-use Rattle.calls.specs.declared.Halt.{Halt}
-use Rattle.calls.specs.Halt.{signSum}
+use Rattle.stopping.specs.declared.Halt.{Halt}
+use Rattle.stopping.specs.Halt.{signSum}
 
 -- the numbers of an answer, in order
 unfoldable pub haltNumbers : Halt → List ℕ

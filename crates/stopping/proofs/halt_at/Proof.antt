@@ -1,4 +1,4 @@
--- `calls::halt_at` meets its contract: the record is cut, and each number of the answer is read of it.
+-- `stopping::halt_at` meets its contract: the record is cut, and each number of the answer is read of it.
 use mathlib.Core.Path.{sym, ap, _∙_}
 use mathlib.Core.Bool.{Bool}
 use Prim.Native.Nat.{ℕ}
@@ -19,9 +19,9 @@ use Rattle.coded.specs.Left.{leftAt}
 use Rattle.coded.proofs.LeftLaws.{left-here, left-kinded}
 use Rattle.calling.specs.Calling.{travelled, goesUp}
 use Rattle.calling.proofs.CallingLaws.{three-numbers}
-use Rattle.calls.proofs.CallsLaws.{stop-there, halt-is}
-use Rattle.calls.proofs.halt_at.Statement.{statement}
-use Rattle.calls.proofs.halt_at.Tie as tie
+use Rattle.stopping.proofs.StoppingLaws.{stop-there, halt-is}
+use Rattle.stopping.proofs.halt_at.Statement.{statement}
+use Rattle.stopping.proofs.halt_at.Tie as tie
 
 cut-requires : tie.Need-cut-requires
 unfolding fieldsOf fieldCounts

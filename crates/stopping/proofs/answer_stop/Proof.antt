@@ -1,4 +1,4 @@
--- `calls::answer_stop` meets its contract: the trip is looked for by its line and number, and none has a number of ten digits.
+-- `stopping::answer_stop` meets its contract: the trip is looked for by its line and number, and none has a number of ten digits.
 use mathlib.Core.List.{List}
 use borrow.Author.Needs.{needs}
 use denote.Ref.{now}
@@ -6,10 +6,10 @@ use Rattle.file.specs.Files.{fieldsOf}
 use Rattle.file.specs.Format.{Fields}
 use Rattle.file.specs.Records.{recordsIn}
 use Rattle.lines.proofs.LineLaws.{place-start}
-use Rattle.calls.specs.Numbers.{numberedStop}
-use Rattle.calls.proofs.CallsLaws.{two-numbers, line-large, trip-large, trip-missing, trip-found}
-use Rattle.calls.proofs.answer_stop.Statement.{statement}
-use Rattle.calls.proofs.answer_stop.Tie as tie
+use Rattle.stopping.specs.Numbers.{numberedStop}
+use Rattle.stopping.proofs.StoppingLaws.{two-numbers, line-large, trip-large, trip-missing, trip-found}
+use Rattle.stopping.proofs.answer_stop.Statement.{statement}
+use Rattle.stopping.proofs.answer_stop.Tie as tie
 
 -- the records of the four files, where the function began
 module _ (start : tie.Start) where

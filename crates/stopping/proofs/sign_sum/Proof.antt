@@ -1,4 +1,4 @@
--- `calls::sign_sum` meets its contract: each sign that is there adds its weight.
+-- `stopping::sign_sum` meets its contract: each sign that is there adds its weight.
 use native.Mathlib.Omega.{arith}
 use borrow.Author.Needs.{needs}
 use denote.Ref.{now}
@@ -6,9 +6,9 @@ use Rattle.file.specs.Files.{fieldsOf}
 use Rattle.file.specs.Records.{recordsIn}
 use Rattle.rules.specs.Texts.{texts}
 use Rattle.halts.specs.Halts.{plainSigns}
-use Rattle.calls.proofs.CallsLaws.{weight-most, sum-is}
-use Rattle.calls.proofs.sign_sum.Statement.{statement}
-use Rattle.calls.proofs.sign_sum.Tie as tie
+use Rattle.stopping.proofs.StoppingLaws.{weight-most, sum-is}
+use Rattle.stopping.proofs.sign_sum.Statement.{statement}
+use Rattle.stopping.proofs.sign_sum.Tie as tie
 
 stop-has-requires-5 : tie.Need-stop-has-requires-5
 stop-has-requires-5 c κs =

@@ -2,7 +2,7 @@
 use asking::Row;
 use asking::put_row;
 use boarding::Sold;
-use sale::sale_on;
+use ticket::sale_on;
 ghost use mathlib.Core.Path.{_≡_};
 ghost use mathlib.Core.List.{[], _∷_};
 ghost use Prim.Native.Nat.{_+_, _*_, _≤_};
@@ -16,7 +16,7 @@ ghost use Rattle.link.specs.Signs.{codesFile};
 ghost use Rattle.coded.specs.Ready.{Ready};
 ghost use Rattle.trip.specs.Stage.{tripsFile};
 ghost use Rattle.boarding.specs.Answers.{numberedSold};
-ghost use Rattle.sale.specs.Plain.{LinesMet};
+ghost use Rattle.ticket.specs.Plain.{LinesMet};
 ghost use Rattle.asking.specs.Rows.{row, rows, rowAt, questions};
 ghost use Rattle.answering.specs.Plainly.{plainly};
 

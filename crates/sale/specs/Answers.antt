@@ -8,7 +8,7 @@ use Rattle.trip.specs.View.{viewOf}
 use Rattle.fault.specs.Answers.{numberedFault}
 use Rattle.batch.specs.Order.{faultOf}
 use Rattle.boarding.specs.Answers.{numberedSold}
-use Rattle.sale.specs.Sale.{saleOn}
+use Rattle.ticket.specs.Sale.{saleOn}
 use Rattle.sale.specs.declared.Sale.{Sale}
 
 unfoldable pub saleAnswer : Batch → ℕ → ℕ → ℕ → ℕ → ℕ → ℕ → ℕ → List ℕ → Numbered

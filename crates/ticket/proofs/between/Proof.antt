@@ -1,4 +1,4 @@
--- `sale::between` meets its contract: the first stop isn't passed first, or what their records say of the two is asked.
+-- `ticket::between` meets its contract: the first stop isn't passed first, or what their records say of the two is asked.
 use mathlib.Core.Path.{_∙_}
 use borrow.Author.Needs.{needs}
 use denote.Ref.{now}
@@ -6,9 +6,9 @@ use Rattle.file.specs.Files.{fieldsOf}
 use Rattle.file.specs.Records.{recordsIn}
 use Rattle.keys.specs.Ranks.{recordAt}
 use Rattle.boarding.specs.Answers.{numberedSold}
-use Rattle.sale.proofs.SaleLaws.{sold-is, between-turned, between-sold}
-use Rattle.sale.proofs.between.Statement.{statement}
-use Rattle.sale.proofs.between.Tie as tie
+use Rattle.ticket.proofs.TicketLaws.{sold-is, between-turned, between-sold}
+use Rattle.ticket.proofs.between.Statement.{statement}
+use Rattle.ticket.proofs.between.Tie as tie
 
 returns : tie.Need-returns
 unfolding numberedSold

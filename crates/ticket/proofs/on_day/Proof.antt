@@ -1,4 +1,4 @@
--- `sale::on_day` meets its contract: the trip is looked for by its line and number, and none has a number of ten digits.
+-- `ticket::on_day` meets its contract: the trip is looked for by its line and number, and none has a number of ten digits.
 use mathlib.Core.Path.{sym, _∙_}
 use mathlib.Core.List.{List, [], _∷_}
 use borrow.Author.Needs.{needs}
@@ -9,12 +9,12 @@ use Rattle.file.specs.Records.{recordsIn}
 use Rattle.keys.proofs.KeyLaws.{has-found, has-none}
 use Rattle.lines.proofs.LineLaws.{place-start}
 use Rattle.trips.proofs.RunsLaws.{found-trip}
-use Rattle.counter.proofs.RunsLaws.{no-line, no-trip, trip-found}
+use Rattle.roll.proofs.TripLaws.{no-line, no-trip, trip-found}
 use Rattle.stopping.proofs.StoppingLaws.{two-numbers}
 use Rattle.boarding.specs.Answers.{numberedSold}
-use Rattle.sale.proofs.SaleLaws.{day-missing, day-found}
-use Rattle.sale.proofs.on_day.Statement.{statement}
-use Rattle.sale.proofs.on_day.Tie as tie
+use Rattle.ticket.proofs.TicketLaws.{day-missing, day-found}
+use Rattle.ticket.proofs.on_day.Statement.{statement}
+use Rattle.ticket.proofs.on_day.Tie as tie
 
 -- the records of the files, where the function began
 module _ (start : tie.Start) where

@@ -16,7 +16,7 @@ use Rattle.trail.specs.Lists.{select, some, firstOr, each, rising, travel}
 use Rattle.trail.proofs.ListLaws.{Climbing}
 use Rattle.kept.proofs.Members.{In, in-first, in-later, some-in, in-some, in-travel, travel-in}
 use Rattle.kept.proofs.OrderLaws.{travel-at}
-use Rattle.sale.specs.Sale.{before}
+use Rattle.ticket.specs.Sale.{before}
 
 module _ {A : Type 0} (d : A) (test : A → Bool) where
   -- where the test holds for one, so many stand before the first, and it holds there

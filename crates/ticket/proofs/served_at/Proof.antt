@@ -1,13 +1,13 @@
--- `sale::served_at` meets its contract: the record is cut, and its times and signs are read of it.
+-- `ticket::served_at` meets its contract: the record is cut, and its times and signs are read of it.
 use borrow.Author.Needs.{needs}
 use denote.Ref.{now}
 use Rattle.file.specs.Files.{fieldsOf, fieldCounts}
 use Rattle.file.specs.Records.{recordsIn}
 use Rattle.rules.specs.Texts.{Kinded}
 use Rattle.coded.proofs.LeftLaws.{left-here, left-kinded}
-use Rattle.sale.proofs.SaleLaws.{served-is}
-use Rattle.sale.proofs.served_at.Statement.{statement}
-use Rattle.sale.proofs.served_at.Tie as tie
+use Rattle.ticket.proofs.TicketLaws.{served-is}
+use Rattle.ticket.proofs.served_at.Statement.{statement}
+use Rattle.ticket.proofs.served_at.Tie as tie
 
 cut-requires : tie.Need-cut-requires
 unfolding fieldsOf fieldCounts

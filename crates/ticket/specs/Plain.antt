@@ -1,7 +1,7 @@
 -- The answer as the code goes about it, on the records of each file; that it is the definition's on a batch that stands is proved (proofs/).
 use Prim.Native.Nat.{ℕ}
 use mathlib.Core.Path.{_≡_}
-use mathlib.Core.Bool.{Bool, true, not}
+use mathlib.Core.Bool.{true, not}
 use mathlib.Core.List.{List, [], _∷_}
 use Rattle.laws.specs.Tests.{pick, both, oneOf}
 use Rattle.laws.specs.Numbered.{Numbered, answered, refused}
@@ -16,7 +16,7 @@ use Rattle.trip.specs.Stops.{arrives, departs, timed}
 use Rattle.course.specs.Track.{minuteOr}
 use Rattle.trips.specs.Plain.{plainRuns}
 use Rattle.halts.specs.Halts.{plainSigns}
-use Rattle.counter.specs.Plain.{tripRecord}
+use Rattle.roll.specs.Roll.{tripRecord}
 use Rattle.boarding.specs.Plain.{passedFirst}
 use Rattle.boarding.specs.declared.Served.{Served}
 

@@ -1,4 +1,4 @@
--- `sale::of_trip` meets its contract: the first stop is looked for by its tariff number.
+-- `ticket::of_trip` meets its contract: the first stop is looked for by its tariff number.
 use mathlib.Core.List.{List}
 use borrow.Author.Needs.{needs}
 use denote.Ref.{now}
@@ -8,9 +8,9 @@ use Rattle.file.specs.Records.{recordsIn}
 use Rattle.keys.specs.Ranks.{recordAt}
 use Rattle.lines.proofs.LineLaws.{place-start}
 use Rattle.boarding.specs.Answers.{numberedSold}
-use Rattle.sale.proofs.SaleLaws.{stop-large, stop-missing, stop-met, stop-here, stop-is, trip-missing-stop, trip-placed}
-use Rattle.sale.proofs.of_trip.Statement.{statement}
-use Rattle.sale.proofs.of_trip.Tie as tie
+use Rattle.ticket.proofs.TicketLaws.{stop-large, stop-missing, stop-met, stop-here, stop-is, trip-missing-stop, trip-placed}
+use Rattle.ticket.proofs.of_trip.Statement.{statement}
+use Rattle.ticket.proofs.of_trip.Tie as tie
 
 -- the records of the files, where the function began
 module _ (start : tie.Start) where

@@ -1,4 +1,4 @@
--- `sale::to_stop` meets its contract: the second stop is looked for by its tariff number, the trip runs that day or doesn't, and then the two are asked.
+-- `ticket::to_stop` meets its contract: the second stop is looked for by its tariff number, the trip runs that day or doesn't, and then the two are asked.
 use mathlib.Core.List.{List}
 use borrow.Author.Needs.{needs}
 use denote.Ref.{now}
@@ -7,9 +7,9 @@ use Rattle.file.specs.Format.{Fields}
 use Rattle.file.specs.Records.{recordsIn}
 use Rattle.keys.specs.Ranks.{recordAt}
 use Rattle.boarding.specs.Answers.{numberedSold}
-use Rattle.sale.proofs.SaleLaws.{stop-large, stop-missing, stop-met, stop-here, stop-is, to-missing, to-another-day, to-placed}
-use Rattle.sale.proofs.to_stop.Statement.{statement}
-use Rattle.sale.proofs.to_stop.Tie as tie
+use Rattle.ticket.proofs.TicketLaws.{stop-large, stop-missing, stop-met, stop-here, stop-is, to-missing, to-another-day, to-placed}
+use Rattle.ticket.proofs.to_stop.Statement.{statement}
+use Rattle.ticket.proofs.to_stop.Tie as tie
 
 -- the records of the files, where the function began
 module _ (start : tie.Start) where

@@ -28,15 +28,15 @@ use Rattle.calling.proofs.CallingLaws.{three-numbers}
 use Rattle.trips.specs.Plain.{plainRuns}
 use Rattle.trips.specs.Standing.{Standing}
 use Rattle.trips.proofs.PlainLaws.{plain-runs}
-use Rattle.counter.specs.Plain.{tripRecord}
-use Rattle.counter.proofs.RunsLaws.{trip-key, trip-found}
+use Rattle.roll.specs.Roll.{tripRecord}
+use Rattle.roll.proofs.TripLaws.{trip-key, trip-found}
 use Rattle.stopping.specs.Halt.{minuteBefore, arrivalOf, departureOf}
 use Rattle.stopping.proofs.StoppingLaws.{arrival-is, departure-is, ours, signed, ith, ith-is, ith-signs}
 use Rattle.boarding.specs.Plain.{passedFirst}
-use Rattle.sale.specs.Plain.{stopRecord, plainSold, placedBetween, plainBetween, plainTrip, plainDay, plainSale}
-use Rattle.sale.proofs.FirstLaws.{before-at, first-in, some-travel, some-each, before-each, travel-order, has-select, has-some, stop-key, one-record}
-use Rattle.sale.specs.Sale as sale
-use Rattle.sale.specs.Sale.{
+use Rattle.ticket.specs.Plain.{stopRecord, plainSold, placedBetween, plainBetween, plainTrip, plainDay, plainSale}
+use Rattle.ticket.proofs.FirstLaws.{before-at, first-in, some-travel, some-each, before-each, travel-order, has-select, has-some, stop-key, one-record}
+use Rattle.ticket.specs.Sale as sale
+use Rattle.ticket.specs.Sale.{
   hasTrip,
   ofTariff,
   hasStop,

@@ -1,4 +1,4 @@
--- `sale::sale_on` meets its contract: the date is none, or the day's number is a day of the calendar.
+-- `ticket::sale_on` meets its contract: the date is none, or the day's number is a day of the calendar.
 use borrow.Author.Needs.{needs}
 use denote.Ref.{now}
 use mathlib.Core.List.{List}
@@ -6,9 +6,9 @@ use Rattle.file.specs.Files.{fieldsOf}
 use Rattle.file.specs.Format.{Fields}
 use Rattle.file.specs.Records.{recordsIn}
 use Rattle.boarding.specs.Answers.{numberedSold}
-use Rattle.sale.proofs.SaleLaws.{date-none, date-day, date-small, sale-no-date, sale-day}
-use Rattle.sale.proofs.sale_on.Statement.{statement}
-use Rattle.sale.proofs.sale_on.Tie as tie
+use Rattle.ticket.proofs.TicketLaws.{date-none, date-day, date-small, sale-no-date, sale-day}
+use Rattle.ticket.proofs.sale_on.Statement.{statement}
+use Rattle.ticket.proofs.sale_on.Tie as tie
 
 -- the records of the files, where the function began
 module _ (start : tie.Start) where

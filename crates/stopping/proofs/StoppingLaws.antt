@@ -43,9 +43,11 @@ use Rattle.course.specs.declared.Visit.{Visit}
 use Rattle.trip.proofs.StopLaws.{arrival-own, departure-own}
 use Rattle.trip.proofs.ViewLaws.{stop-fields, view-signed-stops}
 use Rattle.calling.specs.Calling.{travelled, goesUp}
-use Rattle.halts.specs.Halts.{Nth, plainSigns}
+use Rattle.marks.specs.Marks.{plainSigns}
+use Rattle.marks.proofs.ViewOfMarks.{plain-signs}
+use Rattle.halts.specs.Halts.{Nth}
 use Rattle.halts.proofs.HaltLaws.{walk-done}
-use Rattle.halts.proofs.ViewOfHalts.{plain-signs, plain-stops}
+use Rattle.halts.proofs.ViewOfHalts.{plain-stops}
 use Rattle.stopping.specs.Halt.{stopAt, minuteBefore, arrivalOf, departureOf, isLast, signSum, haltOf}
 use Rattle.stopping.specs.Plain.{haltNumbers, plainHalt, plainNth, plainStop}
 

@@ -16,7 +16,7 @@ use Rattle.trip.specs.Stage.{tripsFile}
 use Rattle.trip.specs.Stops.{arrives, departs, timed}
 use Rattle.course.specs.Track.{minuteOr}
 use Rattle.calling.specs.Calling.{travelled}
-use Rattle.halts.specs.Halts.{plainSigns}
+use Rattle.marks.specs.Marks.{plainSigns}
 use Rattle.stopping.specs.declared.Halt.{Halt}
 use Rattle.stopping.specs.Halt.{signSum}
 

@@ -32,7 +32,7 @@ use Rattle.course.specs.Track.{visitOf}
 use Rattle.course.specs.declared.Visit.{Visit}
 use Rattle.trip.proofs.ViewLaws.{first-found}
 use Rattle.trips.specs.Plain.{plainRuns}
-use Rattle.halts.specs.Halts.{plainSigns}
+use Rattle.marks.specs.Marks.{plainSigns}
 use Rattle.roll.specs.Roll.{tripRecord}
 use Rattle.boarding.specs.Plain.{leftOf, soldOf, passedFirst}
 use Rattle.boarding.specs.declared.Served.{Served}

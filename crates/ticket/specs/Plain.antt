@@ -15,7 +15,7 @@ use Rattle.trip.specs.Stage.{tripsFile}
 use Rattle.trip.specs.Stops.{arrives, departs, timed}
 use Rattle.course.specs.Track.{minuteOr}
 use Rattle.trips.specs.Plain.{plainRuns}
-use Rattle.halts.specs.Halts.{plainSigns}
+use Rattle.marks.specs.Marks.{plainSigns}
 use Rattle.roll.specs.Roll.{tripRecord}
 use Rattle.boarding.specs.Plain.{passedFirst}
 use Rattle.boarding.specs.declared.Served.{Served}

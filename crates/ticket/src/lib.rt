@@ -6,7 +6,7 @@ use boarding::one_of;
 use boarding::passed_first;
 use calendar::Day;
 use calendar::day_of;
-use halts::stop_marks;
+use marks::stop_marks;
 use roll::stop_of;
 use trail::by_two;
 use trips::runs::trip_runs;

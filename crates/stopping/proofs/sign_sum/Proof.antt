@@ -5,7 +5,7 @@ use denote.Ref.{now}
 use Rattle.file.specs.Files.{fieldsOf}
 use Rattle.file.specs.Records.{recordsIn}
 use Rattle.rules.specs.Texts.{texts}
-use Rattle.halts.specs.Halts.{plainSigns}
+use Rattle.marks.specs.Marks.{plainSigns}
 use Rattle.stopping.proofs.StoppingLaws.{weight-most, sum-is}
 use Rattle.stopping.proofs.sign_sum.Statement.{statement}
 use Rattle.stopping.proofs.sign_sum.Tie as tie

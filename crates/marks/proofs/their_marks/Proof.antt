@@ -1,13 +1,13 @@
--- `halts::their_marks` meets its contract: what the line's stop that is found says, or nothing.
+-- `marks::their_marks` meets its contract: what the line's stop that is found says, or nothing.
 use borrow.Author.Needs.{needs}
 use denote.Ref.{now}
 use Rattle.file.specs.Files.{fieldsOf}
 use Rattle.file.specs.Format.{Fields}
 use Rattle.file.specs.Records.{recordsIn}
 use Rattle.rules.specs.Texts.{texts}
-use Rattle.halts.proofs.HaltLaws.{stop-found, marks-there, marks-none}
-use Rattle.halts.proofs.their_marks.Statement.{statement}
-use Rattle.halts.proofs.their_marks.Tie as tie
+use Rattle.marks.proofs.MarkLaws.{stop-found, marks-there, marks-none}
+use Rattle.marks.proofs.their_marks.Statement.{statement}
+use Rattle.marks.proofs.their_marks.Tie as tie
 
 -- once the line's stop was sought: how the function began, and the record
 module _ (v : tie.After-line-stop-of) where

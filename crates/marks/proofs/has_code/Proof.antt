@@ -1,4 +1,4 @@
--- `halts::has_code` meets its contract. The loop's invariant: whether one of the codes that are left has the sign is whether one of all has.
+-- `marks::has_code` meets its contract. The loop's invariant: whether one of the codes that are left has the sign is whether one of all has.
 use mathlib.Core.Path.{_≡_, refl, sym, _∙_}
 use Prim.Native.Nat.{ℕ, _+_, _-_, _≤_}
 use native.Mathlib.Omega.{arith}
@@ -9,9 +9,9 @@ use Rattle.file.specs.Records.{recordsIn}
 use Rattle.link.specs.Signs.{signIn, isIn}
 use Rattle.rules.specs.Texts.{texts}
 use Rattle.trip.specs.View.{signsFrom}
-use Rattle.halts.proofs.HaltLaws.{codes-here, codes-past, codes-none}
-use Rattle.halts.proofs.has_code.Statement.{statement}
-use Rattle.halts.proofs.has_code.Tie as tie
+use Rattle.marks.proofs.MarkLaws.{codes-here, codes-past, codes-none}
+use Rattle.marks.proofs.has_code.Statement.{statement}
+use Rattle.marks.proofs.has_code.Tie as tie
 
 abbrev Inv-loop : tie.InvT-loop
 Inv-loop x file s places from to f3 order ways class i₀ i =

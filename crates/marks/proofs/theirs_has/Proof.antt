@@ -1,13 +1,13 @@
--- `halts::theirs_has` meets its contract: what the line's stop that is found says, or nothing.
+-- `marks::theirs_has` meets its contract: what the line's stop that is found says, or nothing.
 use borrow.Author.Needs.{needs}
 use denote.Ref.{now}
 use Rattle.file.specs.Files.{fieldsOf}
 use Rattle.file.specs.Format.{Fields}
 use Rattle.file.specs.Records.{recordsIn}
 use Rattle.rules.specs.Texts.{texts}
-use Rattle.halts.proofs.HaltLaws.{stop-found, stop-there, stop-none}
-use Rattle.halts.proofs.theirs_has.Statement.{statement}
-use Rattle.halts.proofs.theirs_has.Tie as tie
+use Rattle.marks.proofs.MarkLaws.{stop-found, stop-there, stop-none}
+use Rattle.marks.proofs.theirs_has.Statement.{statement}
+use Rattle.marks.proofs.theirs_has.Tie as tie
 
 -- once the line's stop was sought: how the function began, and the record
 module _ (v : tie.After-line-stop-of) where

@@ -1,4 +1,4 @@
--- `halts::line_stop_of` meets its contract: it goes by the first and the third number of the record that was cut.
+-- `marks::line_stop_of` meets its contract: it goes by the first and the third number of the record that was cut.
 use mathlib.Core.Path.{_≡_, sym, ap, _∙_}
 use Prim.Native.Nat.{ℕ, _<_}
 use native.Mathlib.Omega.{arith}
@@ -13,9 +13,9 @@ use Rattle.rules.specs.Texts.{texts}
 use Rattle.amiss.proofs.RecordLaws.{number-part, number-text}
 use Rattle.trail.proofs.NumberLaws.{Third, third-text}
 use Rattle.calling.proofs.CallingLaws.{three-numbers}
-use Rattle.halts.proofs.HaltLaws.{line-number, two-numbers, sought-is}
-use Rattle.halts.proofs.line_stop_of.Statement.{statement}
-use Rattle.halts.proofs.line_stop_of.Tie as tie
+use Rattle.marks.proofs.MarkLaws.{line-number, two-numbers, sought-is}
+use Rattle.marks.proofs.line_stop_of.Statement.{statement}
+use Rattle.marks.proofs.line_stop_of.Tie as tie
 
 part-requires : tie.Need-part-requires
 unfolding fieldsOf fieldCounts

@@ -1,4 +1,4 @@
--- `halts::code_marks` meets its contract. The loop's invariant: what came and what is left of the codes are all of them.
+-- `marks::code_marks` meets its contract. The loop's invariant: what came and what is left of the codes are all of them.
 use Prim.Native.Nat.{ℕ, _+_, _-_, _≤_}
 use native.Mathlib.Omega.{arith}
 use borrow.Author.Needs.{needs}
@@ -9,9 +9,9 @@ use Rattle.file.specs.Records.{recordsIn}
 use Rattle.link.specs.Signs.{signIn}
 use Rattle.rules.specs.Texts.{texts}
 use Rattle.trip.specs.View.{signsFrom}
-use Rattle.halts.proofs.HaltLaws.{Coming, coming-first, coming-next, coming-last}
-use Rattle.halts.proofs.code_marks.Statement.{statement}
-use Rattle.halts.proofs.code_marks.Tie as tie
+use Rattle.marks.proofs.MarkLaws.{Coming, coming-first, coming-next, coming-last}
+use Rattle.marks.proofs.code_marks.Statement.{statement}
+use Rattle.marks.proofs.code_marks.Tie as tie
 
 abbrev Inv-loop : tie.InvT-loop
 Inv-loop file s places from to f3 order ways class m₀ i₀ m i =

@@ -1,8 +1,8 @@
--- `halts::no_marks` meets its contract: no sign is among none.
+-- `marks::no_marks` meets its contract: no sign is among none.
 use mathlib.Core.Path.{refl}
 use Rattle.link.specs.Signs.{isIn}
-use Rattle.halts.proofs.no_marks.Statement.{statement}
-use Rattle.halts.proofs.no_marks.Tie as tie
+use Rattle.marks.proofs.no_marks.Statement.{statement}
+use Rattle.marks.proofs.no_marks.Tie as tie
 
 returns : tie.Need-returns
 unfolding isIn

@@ -2,8 +2,8 @@
 use Prim.Native.Nat.{ℕ}
 use mathlib.Core.Path.{_≡_}
 use Rattle.thirteen.specs.Batch.{Batch}
-use Rattle.stopping.specs.Numbers.{numberedStop}
-use Rattle.stopping.specs.declared.Stop.{Stop}
+use Rattle.outcome.specs.Answers.{numberedStop}
+use Rattle.outcome.specs.declared.Stop.{Stop}
 use Rattle.calls.specs.Answers.{stopAnswer}
 
 -- the promise of `trip_stop`

@@ -3,7 +3,7 @@
 use batch::check_with;
 use fault::is_none;
 use file::classes;
-use stopping::Stop;
+use outcome::Stop;
 use stopping::answer_stop;
 ghost use Rattle.thirteen.specs.Batch.{thirteen};
 ghost use Rattle.calls.specs.Numbers.{StopIs};

@@ -1,5 +1,5 @@
 -- A trip's stops one by one, as the code goes about them: the records of each file are looked through as they are.
-use Prim.Native.Nat.{ℕ}
+use Prim.Native.Nat.{ℕ, _+_}
 use mathlib.Core.Path.{_≡_}
 use mathlib.Core.List.{List}
 use lib.ListN.{drop}

@@ -5,20 +5,14 @@ use mathlib.Core.List.{List}
 use Rattle.laws.specs.Numbered.{Numbered}
 use Rattle.thirteen.specs.Batch.{Batch, orElse}
 use Rattle.trip.specs.View.{viewOf}
-use Rattle.fault.specs.Answers.{numberedFault}
+use Rattle.outcome.specs.Answers.{numberedSale}
+use Rattle.outcome.specs.declared.Sale.{Sale}
 use Rattle.batch.specs.Order.{faultOf}
-use Rattle.boarding.specs.Answers.{numberedSold}
 use Rattle.ticket.specs.Sale.{saleOn}
-use Rattle.sale.specs.declared.Sale.{Sale}
 
 unfoldable pub saleAnswer : Batch → ℕ → ℕ → ℕ → ℕ → ℕ → ℕ → ℕ → List ℕ → Numbered
 saleAnswer b line trip day month year from to holidays =
     orElse (faultOf b) (saleOn (viewOf b line) trip day month year from to holidays)
-
--- document 01's number and values for each case of the answer on any batch
-unfoldable pub numberedSale : Sale → Numbered
-numberedSale (Sale.Refused f) = numberedFault f
-numberedSale (Sale.Told s) = numberedSold s
 
 -- the promise
 abbrev pub SaleIs : Batch → ℕ → ℕ → ℕ → ℕ → ℕ → ℕ → ℕ → List ℕ → Sale → Type 0

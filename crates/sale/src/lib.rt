@@ -1,20 +1,11 @@
 // The sale question: may this trip be sold from this stop to that one on this date, and at what times? Exactly, or with one numbered refusal.
 use batch::check_with;
-use boarding::Sold;
-use fault::Fault;
 use fault::is_none;
 use file::classes;
+use outcome::Sale;
 use ticket::sale_on;
 ghost use Rattle.thirteen.specs.Batch.{thirteen};
 ghost use Rattle.sale.specs.Answers.{SaleIs};
-
-// The answer on any batch.
-pub enum Sale {
-    // The batch's own refusal.
-    Refused(Fault),
-    // What is said of a batch that stands.
-    Told(Sold),
-}
 
 // The sale question, with a list of holidays. `order` is a hint and may hold anything: no answer depends on it.
 pub fn may_sell<'a>(

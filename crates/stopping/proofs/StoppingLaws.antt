@@ -49,7 +49,8 @@ use Rattle.halts.specs.Halts.{Nth}
 use Rattle.halts.proofs.HaltLaws.{walk-done}
 use Rattle.halts.proofs.ViewOfHalts.{plain-stops}
 use Rattle.stopping.specs.Halt.{stopAt, minuteBefore, arrivalOf, departureOf, isLast, signSum, haltOf}
-use Rattle.stopping.specs.Plain.{haltNumbers, plainHalt, plainNth, plainStop}
+use Rattle.outcome.specs.Answers.{haltNumbers}
+use Rattle.stopping.specs.Plain.{plainHalt, plainNth, plainStop}
 
 -- THE SIGNS. A weight is no more than it is where it counts.
 pub weight-most : (t : Bool) (much n : ℕ) → n ≡ pick t much 0 → n ≤ much

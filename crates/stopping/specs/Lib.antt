@@ -1,3 +1,2 @@
 pub mod Halt
 pub mod Plain
-pub mod Numbers

@@ -17,13 +17,7 @@ use Rattle.trip.specs.Stops.{arrives, departs, timed}
 use Rattle.course.specs.Track.{minuteOr}
 use Rattle.calling.specs.Calling.{travelled}
 use Rattle.marks.specs.Marks.{plainSigns}
-use Rattle.stopping.specs.declared.Halt.{Halt}
 use Rattle.stopping.specs.Halt.{signSum}
-
--- the numbers of an answer, in order
-unfoldable pub haltNumbers : Halt → List ℕ
-haltNumbers h =
-    h .tariff ∷ h .stop ∷ h .arrives ∷ h .arrival ∷ h .departs ∷ h .departure ∷ h .signs ∷ h .last ∷ h .stops ∷ []
 
 -- of record r, where `more` says whether a record with a time comes behind it, and the trip has `count` stops
 unfoldable pub plainHalt : List Fields → List Fields → Fields → Bool → ℕ → List ℕ

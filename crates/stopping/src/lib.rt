@@ -6,6 +6,8 @@ use halts::count_stops;
 use halts::nth_stop;
 use halts::timed_behind;
 use marks::stop_has;
+use outcome::Halt;
+use outcome::Stop;
 use trail::by_two;
 use walk::Found;
 use walk::cut;
@@ -31,32 +33,9 @@ ghost use Rattle.trip.specs.Stage.{tripsFile};
 ghost use Rattle.trip.specs.Stops.{timed};
 ghost use Rattle.calling.specs.Calling.{travelled, goesUp};
 ghost use Rattle.marks.specs.Marks.{plainSigns};
+ghost use Rattle.outcome.specs.Answers.{haltNumbers, numberedStop};
 ghost use Rattle.stopping.specs.Halt.{signSum};
-ghost use Rattle.stopping.specs.Numbers.{numberedStop};
-ghost use Rattle.stopping.specs.Plain.{haltNumbers, plainHalt, plainNth, plainStop};
-
-// A trip's stop, in numbers: 1 for yes and 0 for no, minutes of the day or 0, signs as a sum, and how many stops the trip has.
-pub struct Halt {
-    pub tariff: u64,
-    pub stop: u64,
-    pub arrives: u64,
-    pub arrival: u64,
-    pub departs: u64,
-    pub departure: u64,
-    pub signs: u64,
-    pub last: u64,
-    pub stops: u64,
-}
-
-// The answer.
-pub enum Stop {
-    // The batch's own refusal; or 20, the trip has no such stop.
-    Refused(Fault),
-    // There is no such trip.
-    NoTrip,
-    // The stop.
-    Is(Halt),
-}
+ghost use Rattle.stopping.specs.Plain.{plainHalt, plainNth, plainStop};
 
 // So much if it is so, else 0.
 fn weight(so: bool, much: u64) -> u64

@@ -5,7 +5,7 @@ use Rattle.file.specs.Answers.{numbered}
 use Rattle.file.specs.Files.{fieldsOf}
 use Rattle.file.specs.Records.{recordsIn}
 use Rattle.fault.specs.Answers.{numberedFault}
-use Rattle.stopping.specs.Numbers.{numberedStop}
+use Rattle.outcome.specs.Answers.{numberedStop}
 use Rattle.stopping.proofs.StoppingLaws.{nth-zero, nth-none, nth-there}
 use Rattle.stopping.proofs.answer_halt.Statement.{statement}
 use Rattle.stopping.proofs.answer_halt.Tie as tie

@@ -6,7 +6,7 @@ use Rattle.file.specs.Files.{fieldsOf}
 use Rattle.file.specs.Format.{Fields}
 use Rattle.file.specs.Records.{recordsIn}
 use Rattle.lines.proofs.LineLaws.{place-start}
-use Rattle.stopping.specs.Numbers.{numberedStop}
+use Rattle.outcome.specs.Answers.{numberedStop}
 use Rattle.stopping.proofs.StoppingLaws.{two-numbers, line-large, trip-large, trip-missing, trip-found}
 use Rattle.stopping.proofs.answer_stop.Statement.{statement}
 use Rattle.stopping.proofs.answer_stop.Tie as tie

@@ -29,8 +29,9 @@ use Rattle.fault.specs.OneResult.{fault-no-values}
 use Rattle.alone.specs.Order.{lengthFault, bytesFault, versionFault, firstFault}
 use Rattle.alone.proofs.OrderLaws.{first-each}
 use Rattle.batch.specs.Order.{stages, faultOf}
-use Rattle.batch.specs.Verdicts.{countsOf, verdictOf, numberedVerdict, VerdictIs}
-use Rattle.batch.specs.declared.Verdict.{Verdict}
+use Rattle.outcome.specs.Answers.{numberedVerdict}
+use Rattle.outcome.specs.declared.Verdict.{Verdict}
+use Rattle.batch.specs.Verdicts.{countsOf, verdictOf, VerdictIs}
 use Rattle.batch.proofs.AcceptedLaws.{no-links, stands}
 use Rattle.accepted.specs.Keeps.{Keeps}
 use Rattle.accepted.specs.Verdicts.{IsAccepted}

@@ -2,7 +2,7 @@
 use Prim.Native.Nat.{ℕ}
 use mathlib.Core.List.{List}
 use Rattle.file.specs.Format.{Fields}
-use Rattle.sale.specs.Plain.{plainSale}
+use Rattle.ticket.specs.Plain.{plainSale}
 use Rattle.asking.specs.Rows.{Ask}
 
 -- on the records of each file

@@ -1,8 +1,8 @@
 // Many sale questions, answered one after the other on a batch that stands.
 use asking::Row;
 use asking::put_row;
-use sale::Sold;
-use sale::sale_on;
+use boarding::Sold;
+use ticket::sale_on;
 ghost use mathlib.Core.Path.{_≡_};
 ghost use mathlib.Core.List.{[], _∷_};
 ghost use Prim.Native.Nat.{_+_, _*_, _≤_};
@@ -15,8 +15,8 @@ ghost use Rattle.field.specs.Names.{linesFile, tripStopsFile, timeCodesFile};
 ghost use Rattle.link.specs.Signs.{codesFile};
 ghost use Rattle.coded.specs.Ready.{Ready};
 ghost use Rattle.trip.specs.Stage.{tripsFile};
-ghost use Rattle.sale.specs.Answers.{numberedSold};
-ghost use Rattle.sale.specs.Plain.{LinesMet};
+ghost use Rattle.boarding.specs.Answers.{numberedSold};
+ghost use Rattle.ticket.specs.Plain.{LinesMet};
 ghost use Rattle.asking.specs.Rows.{row, rows, rowAt, questions};
 ghost use Rattle.answering.specs.Plainly.{plainly};
 

@@ -2,7 +2,6 @@
 use mathlib.Core.Path.{_≡_, sym, ap, _∙_}
 use mathlib.Core.Bool.{Bool, true, false, not}
 use mathlib.Core.List.{[]}
-use Prim.Native.Nat.{ℕ}
 use native.Mathlib.Omega.{arith}
 use borrow.Author.Tests.{ne-eqb}
 use lib.Dec.{eqb}
@@ -16,8 +15,9 @@ use Rattle.alone.proofs.OrderLaws.{is-some, is-zero, none-zero}
 use Rattle.batch.specs.Order.{faultOf}
 use Rattle.counts.specs.Counted.{Counted}
 use Rattle.counts.specs.declared.Counts.{Counts}
-use Rattle.batch.specs.Verdicts.{countsOf, verdictOf, numberedVerdict}
-use Rattle.batch.specs.declared.Verdict.{Verdict}
+use Rattle.outcome.specs.Answers.{numberedVerdict}
+use Rattle.outcome.specs.declared.Verdict.{Verdict}
+use Rattle.batch.specs.Verdicts.{countsOf, verdictOf}
 use Rattle.batch.proofs.AcceptedLaws.{standing}
 
 module _ (b : Batch) (f : Fault) (e : numberedFault f ≡ faultOf b) (t : Bool) (d : t ≡ eqb (numberedFault f .number) 0) where

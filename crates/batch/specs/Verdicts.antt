@@ -7,9 +7,9 @@ use lib.ListN.{length}
 use Rattle.laws.specs.Tests.{pick}
 use Rattle.laws.specs.Numbered.{Numbered, answered}
 use Rattle.thirteen.specs.Batch.{Batch, recordsOf}
-use Rattle.fault.specs.Answers.{numberedFault}
+use Rattle.outcome.specs.Answers.{numberedVerdict}
+use Rattle.outcome.specs.declared.Verdict.{Verdict}
 use Rattle.batch.specs.Order.{faultOf}
-use Rattle.batch.specs.declared.Verdict.{Verdict}
 
 -- how many records the files 2, 5, 6 and 8 have: stops, lines, trips, trip stops
 unfoldable pub countsOf : Batch → List ℕ
@@ -18,11 +18,6 @@ countsOf b = length (recordsOf b 2) ∷ length (recordsOf b 5) ∷ length (recor
 -- the verdict
 unfoldable pub verdictOf : Batch → Numbered
 verdictOf b = pick (eqb (faultOf b .number) 0) (answered (countsOf b)) (faultOf b)
-
--- document 01's number, place and values for each case
-unfoldable pub numberedVerdict : Verdict → Numbered
-numberedVerdict (Verdict.Accepted c) = answered (c .stops ∷ c .lines ∷ c .trips ∷ c .«trip_stops» ∷ [])
-numberedVerdict (Verdict.Refused fault) = numberedFault fault
 
 -- the promise of the check
 abbrev pub VerdictIs : Batch → Verdict → Type 0

@@ -1,12 +1,12 @@
 // The check of a batch in document 01's order: refusals 1 to 11, or accepted with the counts of files 2, 5, 6 and 8.
 use alone::check_files;
-use counts::Counts;
 use counts::counts_of;
 use fault::Fault;
 use fault::is_none;
 use file::classes;
 use links::links_fault;
 use lookup::survey;
+use outcome::Verdict;
 use recordfaults::linked_fault;
 use recordfaults::timed_fault;
 use trips::trips_fault;
@@ -23,14 +23,6 @@ ghost use Rattle.fault.specs.Answers.{numberedFault};
 ghost use Rattle.alone.specs.Order.{firstFault};
 ghost use Rattle.batch.specs.Order.{stages, faultOf};
 ghost use Rattle.batch.specs.Verdicts.{VerdictIs};
-
-// What the check of a batch comes to.
-pub enum Verdict {
-    // It keeps every rule.
-    Accepted(Counts),
-    // Its first fault.
-    Refused(Fault),
-}
 
 // 7 to 11.
 fn check_records<'a>(

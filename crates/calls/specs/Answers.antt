@@ -10,7 +10,7 @@ use Rattle.thirteen.specs.Batch.{Batch, recordsOf, orElse}
 use Rattle.trip.specs.Stage.{tripsFile}
 use Rattle.trip.specs.View.{viewOf, stopsOf}
 use Rattle.batch.specs.Order.{faultOf}
-use Rattle.calls.specs.Halt.{haltOf}
+use Rattle.stopping.specs.Halt.{haltOf}
 
 -- a trip's nth stop in travel order, from 1 on: 13 for no trip of this line and number, 20 if it has no such stop
 unfoldable pub stopAnswer : Batch → ℕ → ℕ → ℕ → Numbered

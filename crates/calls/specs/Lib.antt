@@ -1,5 +1,2 @@
-pub mod Halt
-pub mod Plain
 pub mod Answers
 pub mod Numbers
-pub mod OneResult

@@ -4,8 +4,6 @@ use mathlib.Core.Path.{_≡_}
 use mathlib.Core.List.{List}
 use Rattle.laws.specs.Numbered.{Numbered}
 use Rattle.fields.specs.Check.{checkedOf}
-use Rattle.thirteen.specs.Batch.{Batch}
-use Rattle.batch.specs.Verdicts.{verdictOf}
 use Rattle.fileresults.specs.Results.{value}
 use Rattle.checkresults.specs.declared.CheckResult.{CheckResult}
 use Rattle.checkresults.specs.declared.FieldsResult.{FieldsResult}
@@ -26,10 +24,6 @@ checkResult a = record {
   «trip_stops» = value a 3;
 }
 
--- what each exported call gives: the first fault inside one file
+-- what the exported call gives: the first fault inside one file
 abbrev pub FieldsGives : ℕ → List ℕ → FieldsResult → Type 0
 FieldsGives file s r = r ≡ fieldsResult (checkedOf file s)
-
--- the first fault of a batch, or its counts
-abbrev pub CheckGives : Batch → CheckResult → Type 0
-CheckGives b r = r ≡ checkResult (verdictOf b)

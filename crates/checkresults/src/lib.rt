@@ -1,14 +1,14 @@
 // What C is handed of the checks: document 01's refusals 1 to 11, each with its place, and the counts of a batch that is accepted.
-use batch::Verdict;
 use fault::Fault;
 use fields::Checked;
 use file::Refusal;
 use fileresults::place_of;
+use outcome::Verdict;
 ghost use mathlib.Core.Path.{_≡_};
 ghost use Rattle.laws.specs.Numbered.{refusedIn};
 ghost use Rattle.file.specs.Answers.{numbered};
 ghost use Rattle.fault.specs.Answers.{numberedFault};
-ghost use Rattle.batch.specs.Verdicts.{numberedVerdict};
+ghost use Rattle.outcome.specs.Answers.{numberedVerdict};
 ghost use Rattle.checkresults.specs.Results.{fieldsResult, checkResult, FieldsGives};
 
 // A number and its place, of one file's check and of any fault.

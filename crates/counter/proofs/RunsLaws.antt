@@ -1,15 +1,13 @@
--- Whether a trip runs: a trip's record is the one that is found by its key, a key that a record has is of small numbers, and on a batch with no fault
--- each trip's line is there and the records say what the line's view says.
+-- Whether a trip runs: on a batch with no fault each trip's line is there and the records say what the line's view says.
 use mathlib.Core.Path.{_≡_, refl, ap, _∙_}
 use mathlib.Core.Bool.{true, false}
 use mathlib.Core.List.{List, [], _∷_}
-use mathlib.Core.Logic.{_⊎_, inl, inr}
 use Prim.Native.Nat.{ℕ, _≤_, _<_}
 use native.Mathlib.Omega.{arith}
 use lib.Dec.{eqb}
 use lib.ListN.{length, getD}
 use borrow.Author.Tests.{lt-leb, le-leb}
-use Rattle.laws.specs.Tests.{pick, both, either, never, clash}
+use Rattle.laws.specs.Tests.{pick, never, clash}
 use Rattle.laws.specs.Numbered.{answered, refused}
 use Rattle.calendar.specs.Answers.{bit}
 use Rattle.file.specs.Files.{fieldsOf}
@@ -20,71 +18,29 @@ use Rattle.field.specs.Names.{linesFile, timeCodesFile}
 use Rattle.walk.specs.Walk.{LegalFrom}
 use Rattle.walk.specs.declared.Found.{Found}
 use Rattle.walk.specs.declared.Found.the-variants.{At, Nothing}
-use Rattle.keys.specs.Keys.{keyFields, keyTable, keyOf, numbers, same, has, firstWith, ofTrip, none}
-use Rattle.keys.specs.KeyFiles.{KeyFile}
-use Rattle.keys.specs.Ranks.{AllKeyed, Small, recordAt}
-use Rattle.keys.proofs.KeyLaws.{key-small, has-found, has-none}
+use Rattle.keys.specs.Keys.{keyFields, keyTable, keyOf, numbers, has, firstWith}
+use Rattle.keys.specs.Ranks.{recordAt}
+use Rattle.keys.proofs.KeyLaws.{has-found, has-none}
 use Rattle.link.specs.Met.{Linking, number}
 use Rattle.link.specs.Signs.{codesFile}
-use Rattle.link.proofs.HasLaws.{one-cases, same-equal, has-holds, holds-has}
+use Rattle.link.proofs.HasLaws.{has-holds, holds-has}
 use Rattle.thirteen.specs.Batch.{Batch, fileIn, recordsOf}
 use Rattle.trip.specs.Stage.{tripsFile}
 use Rattle.trip.specs.View.{viewOf, runsOn}
-use Rattle.trip.proofs.ViewLaws.{trip-fields, first-same, first-found}
 use Rattle.lookup.specs.Ways.{Ways}
 use Rattle.coded.specs.Ready.{Ready}
 use Rattle.trips.specs.Plain.{plainRuns}
 use Rattle.trips.proofs.PlainLaws.{plain-runs}
 use Rattle.trips.proofs.ReadyLaws.{ready-file}
+use Rattle.roll.proofs.TripLaws.{trip-found}
 use Rattle.fault.specs.Answers.{numberedFault}
 use Rattle.batch.specs.Order.{faultOf}
 use Rattle.fault.specs.declared.Fault.{Fault}
 use Rattle.batch.proofs.AcceptedLaws.{standing}
 use Rattle.counter.specs.Answers.{hasTrip, runsAnswer}
-use Rattle.counter.specs.Plain.{LineMet, tripRecord, plainAnswer}
+use Rattle.counter.specs.Plain.{LineMet, plainAnswer}
 
--- a key that a record has is of numbers below a thousand million
-has-small : (file : ℕ) (k : List ℕ) (rs : List Fields) → AllKeyed file rs → has file k rs ≡ true → Small k
-unfolding has AllKeyed
-has-small file k [] a e = never e
-has-small file k (r ∷ rs) a e = go (one-cases (same (keyOf file r) k) (has file k rs) e) (has-small file k rs (a .1))
-  where
-    go : (same (keyOf file r) k ≡ true) ⊎ (has file k rs ≡ true) → (has file k rs ≡ true → Small k) → Small k
-    go (inl p) rest = rw (same-equal (keyOf file r) k p) at (key-small (keyFields file) r (a .0))
-    go (inr p) rest = rest p
-
--- so there is no trip of a line or a number above
-module _ (s : List ℕ) (f : KeyFile tripsFile s) (line trip : ℕ) where
-  small-trip : has tripsFile (line ∷ trip ∷ []) (recordsIn (fieldsOf tripsFile) s) ≡ true → (line < none) × (trip < none)
-  unfolding Small
-  small-trip e = let h = has-small tripsFile (line ∷ trip ∷ []) (recordsIn (fieldsOf tripsFile) s) (f .keys) e in (h .0, h .1 .0)
-
-  pub no-line : none ≤ line → has tripsFile (line ∷ trip ∷ []) (recordsIn (fieldsOf tripsFile) s) ≡ false
-  no-line h =
-      either (has tripsFile (line ∷ trip ∷ []) (recordsIn (fieldsOf tripsFile) s))
-      (λ t. absurd (omega (arith, small-trip t .0)))
-      (λ t. t)
-
-  pub no-trip : none ≤ trip → has tripsFile (line ∷ trip ∷ []) (recordsIn (fieldsOf tripsFile) s) ≡ false
-  no-trip h =
-      either (has tripsFile (line ∷ trip ∷ []) (recordsIn (fieldsOf tripsFile) s))
-      (λ t. absurd (omega (arith, small-trip t .1)))
-      (λ t. t)
-
--- Spoje's key is its fields 1 and 2
-pub trip-key : (line trip : ℕ) (q : Fields) → both (eqb (number 1 q) line) (eqb (number 2 q) trip) ≡ same (keyOf tripsFile q) (line ∷ trip ∷ [])
-unfolding ofTrip keyFields keyTable numbers
-trip-key line trip q = trip-fields line trip q
-
--- so the record that is found by a trip's key is the trip's
-pub trip-found : (s : List ℕ) (line trip p : ℕ) → LegalFrom (fieldsOf tripsFile) s 0
-    → firstWith tripsFile (line ∷ trip ∷ []) 0 (recordsIn (fieldsOf tripsFile) s) ≡ At p
-    → tripRecord (recordsIn (fieldsOf tripsFile) s) line trip ≡ recordAt tripsFile s p
-trip-found s line trip p l e =
-    first-same [] (λ q. both (eqb (number 1 q) line) (eqb (number 2 q) trip)) (λ q. same (keyOf tripsFile q) (line ∷ trip ∷ [])) (trip-key line trip) (recordsIn (fieldsOf tripsFile) s)
-    ∙ first-found tripsFile s (line ∷ trip ∷ []) p l e
-
--- where nothing is found by it, there is no such trip
+-- where nothing is found by a trip's key, there is no such trip
 pub answer-none : (codes lines times : List Fields) (rs : List Fields) (line trip d : ℕ) (holidays : List ℕ) → has tripsFile (line ∷ trip ∷ []) rs ≡ false
     → plainAnswer codes lines rs times line trip d holidays ≡ refused 13
 unfolding plainAnswer

@@ -1,4 +1,3 @@
 pub mod Plain
 pub mod Answers
 pub mod Numbers
-pub mod OneResult

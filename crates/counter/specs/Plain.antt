@@ -1,23 +1,17 @@
 -- The answers as the code goes about them, on the records of each file.
 use Prim.Native.Nat.{ℕ}
 use mathlib.Core.Path.{_≡_}
-use mathlib.Core.Bool.{Bool, true}
+use mathlib.Core.Bool.{true}
 use mathlib.Core.List.{List, [], _∷_}
-use lib.Dec.{eqb}
-use Rattle.laws.specs.Tests.{pick, both}
+use Rattle.laws.specs.Tests.{pick}
 use Rattle.laws.specs.Numbered.{Numbered, answered, refused}
 use Rattle.calendar.specs.Answers.{bit}
 use Rattle.file.specs.Format.{Fields}
 use Rattle.field.specs.Names.{linesFile}
 use Rattle.keys.specs.Keys.{has}
-use Rattle.link.specs.Met.{number}
-use Rattle.trail.specs.Lists.{firstOr}
 use Rattle.trip.specs.Stage.{tripsFile}
 use Rattle.trips.specs.Plain.{plainRuns}
-
--- the record of a trip
-abbrev pub tripRecord : List Fields → ℕ → ℕ → Fields
-tripRecord trips line trip = firstOr [] (λ r. both (eqb (number 1 r) line) (eqb (number 2 r) trip)) trips
+use Rattle.roll.specs.Roll.{tripRecord}
 
 unfoldable pub plainAnswer : List Fields → List Fields → List Fields → List Fields → ℕ → ℕ → ℕ → List ℕ → Numbered
 plainAnswer codes lines trips times line trip d holidays =

@@ -1,8 +1,8 @@
 // Questions about a batch's trips. Each takes any bytes and any numbers, and checks the batch first.
 use batch::check_with;
-use fault::Fault;
 use fault::is_none;
 use file::classes;
+use outcome::Running;
 use trail::by_two;
 use trips::runs::trip_runs;
 use walk::Found;
@@ -16,22 +16,9 @@ ghost use Rattle.link.specs.Signs.{codesFile};
 ghost use Rattle.thirteen.specs.Batch.{thirteen};
 ghost use Rattle.coded.specs.Ready.{Ready};
 ghost use Rattle.trip.specs.Stage.{tripsFile};
-ghost use Rattle.counter.specs.Numbers.{numberedRuns, RunsIs};
+ghost use Rattle.outcome.specs.Answers.{numberedRuns};
+ghost use Rattle.counter.specs.Numbers.{RunsIs};
 ghost use Rattle.counter.specs.Plain.{LineMet, plainAnswer};
-
-// Whether a trip runs on a day.
-pub enum Running {
-    // The batch's own refusal.
-    Refused(Fault),
-    // The day is none of the calendar's.
-    NoDay,
-    // There is no such trip.
-    NoTrip,
-    // It does.
-    Yes,
-    // It doesn't.
-    Not,
-}
 
 // Whether the trip, if there is one, runs on a day of the calendar.
 fn answer_runs(

@@ -1,6 +1,5 @@
 -- Each row holds by `settled` of laws: the promise is an equation with a numbering that tells all cases of the answer apart. A part's bytes and a
 -- buffer's are given as they are.
-use mathlib.Core.List.{List}
 use lib.ListN.{length}
 use Rattle.laws.specs.Settled.{settled, settled-self, settled-both}
 use Rattle.calendar.specs.Answers.{numberedDay, numberedDate, numberedWeekday, numberedWeek, numberedWhether, dayAnswer, dateAnswer, weekdayAnswer, weekAnswer, holidayAnswer, fitsAnswer}
@@ -10,16 +9,12 @@ use Rattle.file.specs.OneResult.{counted-one, stretch-one, written-one}
 use Rattle.file.specs.Writing.{writtenOf, bufferOf}
 use Rattle.fields.specs.Check.{numberedChecked, checkedOf}
 use Rattle.fields.specs.OneResult.{checked-one}
-use Rattle.batch.specs.OneResult.{verdict-one}
-use Rattle.batch.specs.Verdicts.{numberedVerdict, verdictOf}
+use Rattle.batch.specs.Verdicts.{verdictOf}
 use Rattle.counter.specs.Answers.{runsAnswer}
-use Rattle.counter.specs.Numbers.{numberedRuns}
-use Rattle.counter.specs.OneResult.{runs-one}
 use Rattle.calls.specs.Answers.{stopAnswer}
-use Rattle.calls.specs.Numbers.{numberedStop}
-use Rattle.calls.specs.OneResult.{stop-one}
-use Rattle.sale.specs.Answers.{numberedSale, saleAnswer}
-use Rattle.sale.specs.OneResult.{sale-one}
+use Rattle.sale.specs.Answers.{saleAnswer}
+use Rattle.outcome.specs.Answers.{numberedVerdict, numberedRuns, numberedStop, numberedSale}
+use Rattle.outcome.specs.OneResult.{verdict-one, runs-one, stop-one, sale-one}
 use Rattle.asking.specs.Answers.{numberedSales}
 use Rattle.sales.specs.Sales.{salesAnswer, salesList}
 use Rattle.asking.specs.OneResult.{sales-one}

@@ -21,10 +21,10 @@ use Rattle.arrange.specs.Hint.{HintIs}
 use Rattle.arrange.specs.declared.Arranged.{Arranged}
 use Rattle.fileresults.specs.Results.{RecordsGives, StretchGives, WriteGives}
 use Rattle.dayresults.specs.Results.{DayGives, DateGives, WeekdayGives, WeekGives, HolidayGives, FitsGives}
-use Rattle.checkresults.specs.Results.{FieldsGives, CheckGives}
-use Rattle.tripresults.specs.Results.{RunsGives, TripStopGives}
-use Rattle.saleresults.specs.Results.{SaleGives, SalesGives, StopGives}
+use Rattle.checkresults.specs.Results.{FieldsGives}
 use Rattle.hintresults.specs.Results.{HintGives}
+use Rattle.slovdrim.specs.Gives.{CheckGives, SaleGives, SalesGives, StopGives}
+use Rattle.slovdrim.specs.TripGives.{RunsGives, TripStopGives}
 use Rattle.slovdrim.specs.Version.{VersionGives}
 
 pub record Determined : Type 0 where

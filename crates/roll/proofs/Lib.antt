@@ -1,2 +1,3 @@
 pub mod StandingLaws
 pub mod RollLaws
+pub mod TripLaws

@@ -1,3 +1,1 @@
-pub mod FirstLaws
-pub mod ViewOfSale
 pub mod SaleLaws

@@ -1,4 +1,1 @@
-pub mod Sale
 pub mod Answers
-pub mod OneResult
-pub mod Plain

@@ -1,11 +1,12 @@
 // What C is handed of the counter's answers: number and place, and the answer's values, 0 where there is none.
 use asking::Sales;
+use boarding::Sold;
 use checkresults::handed;
 use named::Named;
-use sale::Sale;
-use sale::Sold;
+use outcome::Sale;
 ghost use mathlib.Core.Path.{_≡_};
-ghost use Rattle.sale.specs.Answers.{numberedSold, numberedSale};
+ghost use Rattle.boarding.specs.Answers.{numberedSold};
+ghost use Rattle.outcome.specs.Answers.{numberedSale};
 ghost use Rattle.asking.specs.Answers.{numberedSales};
 ghost use Rattle.named.specs.Names.{numberedNamed};
 ghost use Rattle.saleresults.specs.Results.{saleResult, plainSaleResult, salesResult, stopResult, plainStopResult};

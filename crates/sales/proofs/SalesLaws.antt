@@ -15,8 +15,8 @@ use Rattle.fault.specs.declared.Fault.{Fault}
 use Rattle.batch.specs.Order.{faultOf}
 use Rattle.batch.proofs.AcceptedLaws.{standing}
 use Rattle.sale.specs.Answers.{saleAnswer}
-use Rattle.sale.specs.Plain.{plainSale}
-use Rattle.sale.proofs.ViewOfSale.{plain-sale}
+use Rattle.ticket.specs.Plain.{plainSale}
+use Rattle.ticket.proofs.ViewOfSale.{plain-sale}
 use Rattle.asking.specs.Rows.{rows, questions}
 use Rattle.asking.specs.Answers.{numberedSales}
 use Rattle.asking.specs.declared.Sales.{Sales}

@@ -1,1 +1,3 @@
 pub mod Version
+pub mod Gives
+pub mod TripGives

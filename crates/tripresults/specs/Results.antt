@@ -1,11 +1,6 @@
 -- What C is handed of a question's answer: its number, its place, and its values in order, 0 where there is none.
 use Prim.Native.Nat.{ℕ}
-use mathlib.Core.Path.{_≡_}
-use mathlib.Core.List.{List}
 use Rattle.laws.specs.Numbered.{Numbered}
-use Rattle.thirteen.specs.Batch.{Batch}
-use Rattle.counter.specs.Answers.{runsAnswer}
-use Rattle.calls.specs.Answers.{stopAnswer}
 use Rattle.fileresults.specs.Results.{value}
 use Rattle.tripresults.specs.declared.RunsResult.{RunsResult}
 use Rattle.tripresults.specs.declared.TripStopResult.{TripStopResult}
@@ -53,11 +48,3 @@ plainStopResult number file row column offset = record {
   last = 0;
   stops = 0;
 }
-
--- what each exported call gives: whether a trip runs on a day
-abbrev pub RunsGives : Batch → ℕ → ℕ → ℕ → List ℕ → RunsResult → Type 0
-RunsGives b line trip d holidays r = r ≡ runsResult (runsAnswer b line trip d holidays)
-
--- a trip's nth stop
-abbrev pub TripStopGives : Batch → ℕ → ℕ → ℕ → TripStopResult → Type 0
-TripStopGives b line trip n r = r ≡ stopResult (stopAnswer b line trip n)

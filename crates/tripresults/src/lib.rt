@@ -1,10 +1,9 @@
 // What C is handed of the questions about a batch's trips: number and place, and the answer's values, 0 where there is none.
-use calls::Stop;
 use checkresults::handed;
-use counter::Running;
+use outcome::Running;
+use outcome::Stop;
 ghost use mathlib.Core.Path.{_≡_};
-ghost use Rattle.counter.specs.Numbers.{numberedRuns};
-ghost use Rattle.calls.specs.Numbers.{numberedStop};
+ghost use Rattle.outcome.specs.Answers.{numberedRuns, numberedStop};
 ghost use Rattle.tripresults.specs.Results.{runsResult, plainRunsResult, stopResult, plainStopResult};
 
 #[repr(C)]

@@ -14,9 +14,10 @@ use Rattle.fault.specs.Answers.{numberedFault}
 use Rattle.fault.specs.OneResult.{fault-no-values}
 use Rattle.fault.specs.declared.Fault.{Fault}
 use Rattle.batch.specs.Order.{faultOf}
-use Rattle.batch.specs.Verdicts.{countsOf, verdictOf, numberedVerdict}
+use Rattle.outcome.specs.Answers.{numberedVerdict}
+use Rattle.batch.specs.Verdicts.{countsOf, verdictOf}
 use Rattle.counts.specs.declared.Counts.{Counts}
-use Rattle.batch.specs.declared.Verdict.{Verdict}
+use Rattle.outcome.specs.declared.Verdict.{Verdict}
 use Rattle.phrase.specs.declared.Place.{Place}
 use Rattle.phrase.specs.Phrases.{acceptedLine, refusedLine}
 use Rattle.together.specs.Lengths.{bytesTogether}

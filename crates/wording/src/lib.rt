@@ -1,8 +1,8 @@
 // The line of the check program: document 01, "The check program and the desk host". Which words and which numbers it has.
-use batch::Verdict;
 use batch::check;
 use fault::Fault;
 use file::Refusal;
+use outcome::Verdict;
 use phrase::Place;
 use phrase::lay;
 use phrase::lay_accepted;
@@ -16,7 +16,7 @@ ghost use Rattle.laws.specs.Numbered.{refusedIn, refusedAt};
 ghost use Rattle.file.specs.Answers.{numbered};
 ghost use Rattle.thirteen.specs.Batch.{thirteen};
 ghost use Rattle.fault.specs.Answers.{numberedFault};
-ghost use Rattle.batch.specs.Verdicts.{numberedVerdict};
+ghost use Rattle.outcome.specs.Answers.{numberedVerdict};
 ghost use Rattle.wording.specs.Line.{verdictLine, programLine};
 ghost use Rattle.wording.specs.Places.{numberedPlace, Judged};
 

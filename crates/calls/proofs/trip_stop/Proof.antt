@@ -7,7 +7,7 @@ use denote.Ref.{now}
 use Rattle.laws.specs.Numbered.{answered}
 use Rattle.thirteen.specs.Batch.{Batch, thirteen, fileIn}
 use Rattle.batch.specs.Order.{faultOf}
-use Rattle.calls.specs.Numbers.{numberedStop}
+use Rattle.outcome.specs.Answers.{numberedStop}
 use Rattle.calls.proofs.CallsLaws.{answer-refused, no-fault, answer-is, files-ready}
 use Rattle.calls.proofs.trip_stop.Statement.{statement}
 use Rattle.calls.proofs.trip_stop.Tie as tie

@@ -1,7 +1,7 @@
 -- `checkresults::judged` hands on each case of a verdict.
 use mathlib.Core.Path.{ap, _∙_}
 use borrow.Author.Needs.{needs}
-use Rattle.batch.specs.Verdicts.{numberedVerdict}
+use Rattle.outcome.specs.Answers.{numberedVerdict}
 use Rattle.checkresults.specs.Results.{checkResult}
 use Rattle.checkresults.proofs.RefusedLaws.{checkAt, refused-check}
 use Rattle.checkresults.proofs.judged.Statement.{statement}

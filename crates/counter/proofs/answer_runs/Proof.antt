@@ -12,8 +12,9 @@ use Rattle.keys.specs.Keys.{keyFields, keyTable}
 use Rattle.keys.proofs.KeyLaws.{has-found, has-none}
 use Rattle.lines.proofs.LineLaws.{place-start}
 use Rattle.trips.proofs.RunsLaws.{found-trip}
-use Rattle.counter.specs.Numbers.{numberedRuns}
-use Rattle.counter.proofs.RunsLaws.{no-line, no-trip, answer-none, answer-found}
+use Rattle.outcome.specs.Answers.{numberedRuns}
+use Rattle.roll.proofs.TripLaws.{no-line, no-trip}
+use Rattle.counter.proofs.RunsLaws.{answer-none, answer-found}
 use Rattle.counter.proofs.answer_runs.Statement.{statement}
 use Rattle.counter.proofs.answer_runs.Tie as tie
 

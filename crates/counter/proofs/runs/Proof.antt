@@ -6,7 +6,7 @@ use lib.ListN.{length}
 use borrow.Author.Needs.{needs}
 use borrow.Author.Tests.{not-true, not-false}
 use Rattle.thirteen.specs.Batch.{fileIn}
-use Rattle.counter.specs.Numbers.{numberedRuns}
+use Rattle.outcome.specs.Answers.{numberedRuns}
 use Rattle.counter.proofs.RunsLaws.{asked, no-fault, runs-refused, runs-no-day, runs-plain}
 use Rattle.counter.proofs.runs.Statement.{statement}
 use Rattle.counter.proofs.runs.Tie as tie

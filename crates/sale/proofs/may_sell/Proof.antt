@@ -11,7 +11,7 @@ use Rattle.thirteen.specs.Batch.{Batch, thirteen, fileIn}
 use Rattle.batch.specs.Order.{faultOf}
 use Rattle.batch.proofs.AcceptedLaws.{standing}
 use Rattle.roll.proofs.StandingLaws.{standing-ready}
-use Rattle.sale.specs.Answers.{numberedSale}
+use Rattle.outcome.specs.Answers.{numberedSale}
 use Rattle.sale.proofs.SaleLaws.{no-fault, sale-refused, sale-told, lines-met}
 use Rattle.sale.proofs.may_sell.Statement.{statement}
 use Rattle.sale.proofs.may_sell.Tie as tie

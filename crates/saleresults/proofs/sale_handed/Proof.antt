@@ -1,7 +1,7 @@
 -- `saleresults::sale_handed` hands on each case of the answer.
 use mathlib.Core.Path.{ap, _∙_}
 use borrow.Author.Needs.{needs}
-use Rattle.sale.specs.Answers.{numberedSale}
+use Rattle.outcome.specs.Answers.{numberedSale}
 use Rattle.saleresults.specs.Results.{saleResult}
 use Rattle.saleresults.proofs.RefusedLaws.{saleAt, refused-sale}
 use Rattle.saleresults.proofs.sale_handed.Statement.{statement}

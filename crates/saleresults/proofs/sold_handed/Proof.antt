@@ -1,6 +1,6 @@
 -- `saleresults::sold_handed` hands on each case of the answer.
 use borrow.Author.Needs.{needs}
-use Rattle.sale.specs.Answers.{numberedSold}
+use Rattle.boarding.specs.Answers.{numberedSold}
 use Rattle.saleresults.specs.Results.{saleResult}
 use Rattle.saleresults.proofs.sold_handed.Statement.{statement}
 use Rattle.saleresults.proofs.sold_handed.Tie as tie

@@ -1,7 +1,7 @@
 -- `tripresults::runs_handed` hands on each case of the answer.
 use mathlib.Core.Path.{ap, _∙_}
 use borrow.Author.Needs.{needs}
-use Rattle.counter.specs.Numbers.{numberedRuns}
+use Rattle.outcome.specs.Answers.{numberedRuns}
 use Rattle.tripresults.specs.Results.{runsResult}
 use Rattle.tripresults.proofs.RefusedLaws.{runsAt, refused-runs}
 use Rattle.tripresults.proofs.runs_handed.Statement.{statement}

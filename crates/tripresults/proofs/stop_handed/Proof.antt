@@ -1,8 +1,7 @@
 -- `tripresults::stop_handed` hands on each case of the answer.
 use mathlib.Core.Path.{ap, _∙_}
 use borrow.Author.Needs.{needs}
-use Rattle.calls.specs.Numbers.{numberedStop}
-use Rattle.calls.specs.Plain.{haltNumbers}
+use Rattle.outcome.specs.Answers.{haltNumbers, numberedStop}
 use Rattle.tripresults.specs.Results.{stopResult}
 use Rattle.tripresults.proofs.RefusedLaws.{stopAtPlace, refused-stop}
 use Rattle.tripresults.proofs.stop_handed.Statement.{statement}

@@ -1,0 +1,2 @@
+pub mod Sale
+pub mod Plain

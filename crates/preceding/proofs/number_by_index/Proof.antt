@@ -1,4 +1,4 @@
--- `previous::number_by_index` meets its contract: the entry before the first that isn't below the trip's x tells the number, or there is none.
+-- `preceding::number_by_index` meets its contract: the entry before the first that isn't below the trip's x tells the number, or there is none.
 use mathlib.Core.Path.{_∙_}
 use Prim.Native.Nat.{_+_, _*_, _-_}
 use native.Mathlib.Omega.{arith}
@@ -8,9 +8,9 @@ use denote.Ref.{now}
 use Rattle.keys.specs.Keys.{none}
 use Rattle.hinted.specs.Hinted.{Lower}
 use Rattle.hinted.proofs.HintedLaws.{entry-place}
 use Rattle.previous.proofs.PreviousLaws.{index-trails, index-first, number-none, trails-number}
-use Rattle.previous.proofs.number_by_index.Statement.{statement}
-use Rattle.previous.proofs.number_by_index.Tie as tie
+use Rattle.preceding.proofs.number_by_index.Statement.{statement}
+use Rattle.preceding.proofs.number_by_index.Tie as tie
 
 returns : tie.Need-returns
 returns c =

@@ -1,13 +1,13 @@
--- `previous::previous_of_trip` meets its contract: every number is below one of ten digits.
+-- `preceding::previous_of_trip` meets its contract: every number is below one of ten digits.
 use mathlib.Core.Path.{_∙_}
 use native.Mathlib.Omega.{arith}
 use borrow.Author.Needs.{needs}
 use denote.Ref.{now}
 use Rattle.file.specs.Files.{fieldsOf}
 use Rattle.file.specs.Records.{recordsIn}
 use Rattle.previous.proofs.PreviousLaws.{previous-beyond}
-use Rattle.previous.proofs.previous_of_trip.Statement.{statement}
-use Rattle.previous.proofs.previous_of_trip.Tie as tie
+use Rattle.preceding.proofs.previous_of_trip.Statement.{statement}
+use Rattle.preceding.proofs.previous_of_trip.Tie as tie
 
 returns : tie.Need-returns
 returns c =

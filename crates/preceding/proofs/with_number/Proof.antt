@@ -1,10 +1,10 @@
--- `previous::with_number` meets its contract.
+-- `preceding::with_number` meets its contract.
 use mathlib.Core.Path.{sym, _∙_}
 use native.Mathlib.Omega.{arith}
 use borrow.Author.Needs.{needs}
 use Rattle.previous.proofs.PreviousLaws.{with-none, with-some}
-use Rattle.previous.proofs.with_number.Statement.{statement}
-use Rattle.previous.proofs.with_number.Tie as tie
+use Rattle.preceding.proofs.with_number.Statement.{statement}
+use Rattle.preceding.proofs.with_number.Tie as tie
 
 returns : tie.Need-returns
 returns c =

@@ -1,13 +1,13 @@
--- `previous::previous_below` meets its contract: each way finds the same.
+-- `preceding::previous_below` meets its contract: each way finds the same.
 use mathlib.Core.Path.{_∙_}
 use native.Mathlib.Omega.{arith}
 use borrow.Author.Needs.{needs}
 use denote.Ref.{now}
 use Rattle.file.specs.Files.{fieldsOf}
 use Rattle.file.specs.Records.{recordsIn}
 use Rattle.previous.proofs.PreviousLaws.{previous-most, by-number}
-use Rattle.previous.proofs.previous_below.Statement.{statement}
-use Rattle.previous.proofs.previous_below.Tie as tie
+use Rattle.preceding.proofs.previous_below.Statement.{statement}
+use Rattle.preceding.proofs.previous_below.Tie as tie
 
 with-number-requires : tie.Need-with-number-requires
 with-number-requires c κs =

@@ -1,4 +1,4 @@
--- `previous::number_by_search` meets its contract. The loop's invariant: the greater of `most` and the number of the records from `at` on is
+-- `preceding::number_by_search` meets its contract. The loop's invariant: the greater of `most` and the number of the records from `at` on is
 -- that of all.
 use Prim.Native.Nat.{_-_}
 use native.Mathlib.Omega.{arith}
@@ -6,9 +6,9 @@ use borrow.Author.Needs.{needs}
 use lib.ListN.{length}
 use denote.Ref.{now}
 use Rattle.keys.proofs.KeyFileLaws.{key-here}
 use Rattle.previous.proofs.PreviousLaws.{Passing, pass-start, pass-next, pass-end}
-use Rattle.previous.proofs.number_by_search.Statement.{statement}
-use Rattle.previous.proofs.number_by_search.Tie as tie
+use Rattle.preceding.proofs.number_by_search.Statement.{statement}
+use Rattle.preceding.proofs.number_by_search.Tie as tie
 
 abbrev Inv-loop : tie.InvT-loop
 Inv-loop file s line trip x hi most₀ at₀ most at = Passing file line trip x s most at

@@ -1,4 +1,4 @@
--- `previous::among_rising` meets its contract: the line before the first record that isn't below the trip's x has the greatest key below it.
+-- `preceding::among_rising` meets its contract: the line before the first record that isn't below the trip's x has the greatest key below it.
 use mathlib.Core.Path.{refl, ap, _∙_}
 use Prim.Native.Nat.{ℕ, _<_}
 use native.Mathlib.Omega.{arith}
@@ -8,10 +8,10 @@ use Rattle.file.specs.Records.{recordsIn}
 use Rattle.lines.specs.Order.{firstFrom}
 use Rattle.lines.proofs.OrderLaws.{from-place}
 use Rattle.keys.specs.Ranks.{rankOf}
 use Rattle.previous.proofs.LineBackLaws.{ended}
 use Rattle.previous.proofs.PreviousLaws.{previous-nothing, rising-trails, rising-first, number-none, trails-number, trails-place}
-use Rattle.previous.proofs.among_rising.Statement.{statement}
-use Rattle.previous.proofs.among_rising.Tie as tie
+use Rattle.preceding.proofs.among_rising.Statement.{statement}
+use Rattle.preceding.proofs.among_rising.Tie as tie
 
 returns : tie.Need-returns
 returns c =

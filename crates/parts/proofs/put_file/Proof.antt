@@ -1,4 +1,4 @@
--- `arrange::put_file` meets its contract: a record starts at each place of the list, so it is put in order.
+-- `parts::put_file` meets its contract: a record starts at each place of the list, so it is put in order.
 use mathlib.Core.Path.{sym, ap, subst, _∙_}
 use mathlib.Core.List.{List}
 use Prim.Native.Nat.{ℕ}
@@ -6,10 +6,10 @@ use borrow.Author.Needs.{needs}
 use denote.Ref.{now}
 use Rattle.ranked.specs.Ranked.{inOrder}
 use Rattle.heap.specs.Places.{keyRank, Places}
-use Rattle.arrange.specs.Hint.{startsInOrder}
-use Rattle.arrange.proofs.HintLaws.{starts-places}
-use Rattle.arrange.proofs.put_file.Statement.{statement}
-use Rattle.arrange.proofs.put_file.Tie as tie
+use Rattle.parts.specs.Parts.{startsInOrder}
+use Rattle.parts.proofs.PartLaws.{starts-places}
+use Rattle.parts.proofs.put_file.Statement.{statement}
+use Rattle.parts.proofs.put_file.Tie as tie
 
 sort-requires : tie.Need-sort-requires
 sort-requires c κs =

@@ -1,10 +1,10 @@
--- `arrange::size_of` meets its contract.
+-- `parts::size_of` meets its contract.
 use mathlib.Core.Path.{sym, _∙_}
 use borrow.Author.Needs.{needs}
 use denote.Ref.{now}
-use Rattle.arrange.proofs.HintLaws.{part-none, part-many}
-use Rattle.arrange.proofs.size_of.Statement.{statement}
-use Rattle.arrange.proofs.size_of.Tie as tie
+use Rattle.parts.proofs.PartLaws.{part-none, part-many}
+use Rattle.parts.proofs.size_of.Statement.{statement}
+use Rattle.parts.proofs.size_of.Tie as tie
 
 returns : tie.Need-returns
 returns c =

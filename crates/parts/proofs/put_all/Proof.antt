@@ -1,4 +1,4 @@
--- `arrange::put_all` meets its contract. The loop's invariant speaks of what is left: the parts of the files from `file` on, laid over the list as it is,
+-- `parts::put_all` meets its contract. The loop's invariant speaks of what is left: the parts of the files from `file` on, laid over the list as it is,
 -- give the list that is wanted.
 use mathlib.Core.Path.{_≡_, refl, _∙_}
 use Prim.Native.Nat.{_+_, _-_, _≤_, _<_}
@@ -8,11 +8,10 @@ use lib.ListN.{length}
 use denote.Ref.{now}
 use Rattle.laws.specs.Splice.{splice}
 use Rattle.thirteen.specs.Batch.{Batch, thirteen}
-use Rattle.arrange.specs.Hint.{partsFrom, hintOf}
-use Rattle.arrange.proofs.KeyedLaws.{chosen}
-use Rattle.arrange.proofs.HintLaws.{parts-counted, parts-laid, parts-all}
-use Rattle.arrange.proofs.put_all.Statement.{statement}
-use Rattle.arrange.proofs.put_all.Tie as tie
+use Rattle.parts.specs.Parts.{partsFrom, hintOf}
+use Rattle.parts.proofs.PartLaws.{chosen, parts-counted, parts-laid, parts-all}
+use Rattle.parts.proofs.put_all.Statement.{statement}
+use Rattle.parts.proofs.put_all.Tie as tie
 
 abbrev Inv-loop : tie.InvT-loop
 Inv-loop f1 f2 f3 f4 f5 f6 f7 f8 f9 f10 f11 f12 f13 list₀ at₀ file₀ list at file =

@@ -1,4 +1,4 @@
--- `arrange::put_part` meets its contract. A part with places in it is that of a file whose keys don't rise, so it is as long as the file has records.
+-- `parts::put_part` meets its contract. A part with places in it is that of a file whose keys don't rise, so it is as long as the file has records.
 use mathlib.Core.Path.{_≡_, _∙_}
 use mathlib.Core.Bool.{false}
 use Prim.Native.Nat.{_+_, _-_, _≤_}
@@ -10,10 +10,10 @@ use Rattle.file.specs.Files.{fieldsOf}
 use Rattle.file.specs.Records.{recordsIn}
 use Rattle.lines.specs.Order.{isRising}
 use Rattle.keys.specs.Ranks.{rankOf}
-use Rattle.arrange.specs.Hint.{partOf}
-use Rattle.arrange.proofs.HintLaws.{part-kept, part-there, part-many, part-laid, mid-size}
-use Rattle.arrange.proofs.put_part.Statement.{statement}
-use Rattle.arrange.proofs.put_part.Tie as tie
+use Rattle.parts.specs.Parts.{partOf}
+use Rattle.parts.proofs.PartLaws.{part-kept, part-there, part-many, part-laid, mid-size}
+use Rattle.parts.proofs.put_part.Statement.{statement}
+use Rattle.parts.proofs.put_part.Tie as tie
 
 returns : tie.Need-returns
 returns c =

@@ -1,4 +1,4 @@
--- `arrange::whole_size` meets its contract. The loop's invariant: `size` and the places of the files from `file` on are all.
+-- `parts::whole_size` meets its contract. The loop's invariant: `size` and the places of the files from `file` on are all.
 use mathlib.Core.Path.{_≡_, ap}
 use Prim.Native.Nat.{_+_, _-_, _*_, _≤_, _<_}
 use native.Mathlib.Omega.{arith}
@@ -8,11 +8,10 @@ use denote.Ref.{now}
 use Rattle.file.specs.Files.{longest}
 use Rattle.keys.specs.KeyFiles.{KeyFile}
 use Rattle.thirteen.specs.Batch.{Batch, thirteen}
-use Rattle.arrange.specs.Hint.{partsFrom, hintOf}
-use Rattle.arrange.proofs.KeyedLaws.{chosen}
-use Rattle.arrange.proofs.HintLaws.{part-few, parts-counted, parts-done}
-use Rattle.arrange.proofs.whole_size.Statement.{statement}
-use Rattle.arrange.proofs.whole_size.Tie as tie
+use Rattle.parts.specs.Parts.{partsFrom, hintOf}
+use Rattle.parts.proofs.PartLaws.{chosen, part-few, parts-counted, parts-done}
+use Rattle.parts.proofs.whole_size.Statement.{statement}
+use Rattle.parts.proofs.whole_size.Tie as tie
 
 abbrev Inv-loop : tie.InvT-loop
 Inv-loop f1 f2 f3 f4 f5 f6 f7 f8 f9 f10 f11 f12 f13 size₀ file₀ size file =

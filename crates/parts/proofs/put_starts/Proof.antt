@@ -1,4 +1,4 @@
--- `arrange::put_starts` meets its contract. The loop's invariant speaks of what is left: the places of the records that are left, laid over the list as it
+-- `parts::put_starts` meets its contract. The loop's invariant speaks of what is left: the places of the records that are left, laid over the list as it
 -- is, give the list that is wanted.
 use mathlib.Core.Path.{_≡_, refl, sym, ap, _∙_}
 use Prim.Native.Nat.{_+_, _-_, _≤_, _<_}
@@ -12,9 +12,9 @@ use Rattle.lines.specs.Index.{startsFrom, starts}
 use Rattle.lines.proofs.LineLaws.{place-start, next-line, next-at}
 use Rattle.keys.specs.Ranks.{rankOf}
 use Rattle.keys.specs.KeyFiles.{PlaceIn, recordsFrom}
-use Rattle.arrange.proofs.HintLaws.{starts-size, splice-whole, starts-turn, starts-done}
-use Rattle.arrange.proofs.put_starts.Statement.{statement}
-use Rattle.arrange.proofs.put_starts.Tie as tie
+use Rattle.parts.proofs.PartLaws.{starts-size, splice-whole, starts-turn, starts-done}
+use Rattle.parts.proofs.put_starts.Statement.{statement}
+use Rattle.parts.proofs.put_starts.Tie as tie
 
 abbrev Inv-loop : tie.InvT-loop
 Inv-loop file s list₀ n₀ at₀ list n at =

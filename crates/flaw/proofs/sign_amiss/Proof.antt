@@ -1,4 +1,4 @@
--- `amiss::sign_amiss` meets its contract: the tests are those of the definition, and Zasspoje's first code is one of the record's
+-- `flaw::sign_amiss` meets its contract: the tests are those of the definition, and Zasspoje's first code is one of the record's
 -- fields.
 use mathlib.Core.Path.{_≡_, sym, ap, _∙_}
 use mathlib.Core.Bool.{true, false}
@@ -13,10 +13,10 @@ use Rattle.field.specs.Values.{isEmpty, value}
 use Rattle.thirteen.specs.Batch.{Batch, thirteen}
 use Rattle.rules.specs.Texts.{texts}
 use Rattle.link.specs.Signs.{isPermitted, signOf}
 use Rattle.amiss.proofs.RecordLaws.{code-field, code-part, first-code}
 use Rattle.amiss.proofs.AmissLaws.{is-second, other-file, other-field, sign-refused, sign-alone, sign-first, sign-same, sign-other}
-use Rattle.amiss.proofs.sign_amiss.Statement.{statement}
-use Rattle.amiss.proofs.sign_amiss.Tie as tie
+use Rattle.flaw.proofs.sign_amiss.Statement.{statement}
+use Rattle.flaw.proofs.sign_amiss.Tie as tie
 
 -- the start of the function, the batch that was lent, and the record
 abbrev begin : tie.After-slice-known → tie.Start

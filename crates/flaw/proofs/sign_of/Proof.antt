@@ -1,4 +1,4 @@
--- `amiss::sign_of` meets its contract: the first record of Pevnykod that has the code number has its sign.
+-- `flaw::sign_of` meets its contract: the first record of Pevnykod that has the code number has its sign.
 use mathlib.Core.Path.{refl, sym, _∙_}
 use native.Mathlib.Omega.{arith}
 use borrow.Author.Needs.{needs}
@@ -6,9 +6,9 @@ use denote.Ref.{now}
 use Rattle.thirteen.specs.Batch.{Batch, thirteen, fileIn, recordsOf}
 use Rattle.keys.specs.Keys.{keyFields, keyTable}
 use Rattle.link.specs.Signs.{signOf}
 use Rattle.amiss.proofs.RecordLaws.{key-file, kind-file, code-there, sign-none}
-use Rattle.amiss.proofs.sign_of.Statement.{statement}
-use Rattle.amiss.proofs.sign_of.Tie as tie
+use Rattle.flaw.proofs.sign_of.Statement.{statement}
+use Rattle.flaw.proofs.sign_of.Tie as tie
 
 -- the start of the function, and the batch that was lent
 abbrev begin : tie.After-slice-known → tie.Start

@@ -1,4 +1,4 @@
--- `amiss::code_amiss` meets its contract: an empty code links to nothing; any other is looked for, and the record that is found has its
+-- `flaw::code_amiss` meets its contract: an empty code links to nothing; any other is looked for, and the record that is found has its
 -- sign.
 use mathlib.Core.Path.{_≡_, refl, sym, ap, _∙_}
 use mathlib.Core.Bool.{true, false}
@@ -13,10 +13,10 @@ use Rattle.thirteen.specs.Batch.{Batch, thirteen, fileIn, recordsOf}
 use Rattle.keys.specs.Keys.{keyFields, keyTable}
 use Rattle.rules.specs.Texts.{texts}
 use Rattle.link.specs.Signs.{signOf}
 use Rattle.amiss.proofs.RecordLaws.{Numeral, SignHere, code-field, code-part, key-file, kind-file, code-there, record-later}
 use Rattle.amiss.proofs.AmissLaws.{one-key, found-has, nothing-has, code-empty, code-none, code-found}
-use Rattle.amiss.proofs.code_amiss.Statement.{statement}
-use Rattle.amiss.proofs.code_amiss.Tie as tie
+use Rattle.flaw.proofs.code_amiss.Statement.{statement}
+use Rattle.flaw.proofs.code_amiss.Tie as tie
 
 -- the start of the function, the batch that was lent, and the record
 abbrev begin : tie.After-slice-known → tie.Start

@@ -1,4 +1,4 @@
--- `amiss::amiss_at` meets its contract: what is wrong with a field is what its link asks for; each link's fields are numbers, or a code.
+-- `flaw::amiss_at` meets its contract: what is wrong with a field is what its link asks for; each link's fields are numbers, or a code.
 use mathlib.Core.Path.{_≡_, refl, sym, _∙_}
 use native.Mathlib.Omega.{arith}
 use borrow.Author.Needs.{needs}
@@ -10,9 +10,9 @@ use Rattle.rules.specs.Texts.{texts}
 use Rattle.link.specs.Links.{linkOf}
 use Rattle.link.specs.declared.Link.{Link}
 use Rattle.link.proofs.KindOfLinks.{line-numeric, stop-numeric, carrier-numeric, trip-numeric, trip-or-zero-numeric, line-stop-numeric, code-kind}
 use Rattle.amiss.proofs.AmissLaws.{free-amiss, line-amiss, stop-amiss, carrier-amiss, trip-amiss, seat-amiss, line-stop-amiss}
-use Rattle.amiss.proofs.amiss_at.Statement.{statement}
-use Rattle.amiss.proofs.amiss_at.Tie as tie
+use Rattle.flaw.proofs.amiss_at.Statement.{statement}
+use Rattle.flaw.proofs.amiss_at.Tie as tie
 
 -- the start of the function, the batch that was lent, and the record
 abbrev begin : tie.After-link-of → tie.Start

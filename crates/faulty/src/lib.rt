@@ -1,9 +1,9 @@
 // The first fault of a file among its keys, links and signs: document 01, refusals 7, 8 and 9, record by record: the key, then fields rising, at one field
 // 8 before 9.
-use amiss::amiss_at;
 use clip::cut;
 use file::fields_of;
 use find::used_before;
+use flaw::amiss_at;
 use link::Linked;
 use lookup::index_of;
 use targets::links_in;

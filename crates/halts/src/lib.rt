@@ -1,8 +1,8 @@
 // A trip's stops one by one: how many it has, the nth in travel order, and whether a later one has a time.
 use calling::first_of;
-use trail::Step;
-use trail::onward;
-use trail::step_on;
+use entries::Step;
+use steps::onward;
+use steps::step_on;
 use walk::cut;
 ghost use mathlib.Core.Path.{_≡_};
 ghost use Prim.Native.Nat.{_<_};

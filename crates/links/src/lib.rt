@@ -1,5 +1,5 @@
 // Keys, links and signs: document 01, "The batch" and the permitted signs under "Fields"; refusals 7, 8 and 9. What is linked to what, and which
-// signs are permitted where, stands in the crate `link`, and what is wrong with one field in `amiss`; here the batch's files are gone through in
+// signs are permitted where, stands in the crate `link`, and what is wrong with one field in `flaw`; here the batch's files are gone through in
 // document 01's order, files 2-13.
 use faulty::file_order_fault;
 use fitting::all_fit;

@@ -1,7 +1,7 @@
 // The signs of a trip's stop: whether it has one, and which it has of those that a sale asks for.
 use coded::code_sign;
 use field::value_of;
-use trail::by_two;
+use steps::by_two;
 use walk::Found;
 use walk::cut;
 use walk::part;

@@ -1,8 +1,8 @@
 // Links that were found to be met are remembered in a table of numbers: most records link to what one shortly before linked to. What is
-// remembered is only that nothing is wrong; where something may be, the field is looked at as `amiss` does.
-use amiss::amiss_at;
+// remembered is only that nothing is wrong; where something may be, the field is looked at as `flaw` does.
 use amiss::number_of;
 use field::value_of;
+use flaw::amiss_at;
 use link::Link;
 use targets::link_of;
 use targets::links_in;

@@ -2,8 +2,8 @@
 // looked up in Pevnykod.
 use clip::cut;
 use coded::code_sign;
-use trail::first_step;
-use trail::step_on;
+use steps::first_step;
+use steps::step_on;
 ghost use mathlib.Core.Path.{_≡_};
 ghost use mathlib.Core.Bool.{true, false};
 ghost use Prim.Native.Nat.{_≤_, _<_};

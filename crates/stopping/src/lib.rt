@@ -8,7 +8,7 @@ use halts::timed_behind;
 use marks::stop_has;
 use outcome::Halt;
 use outcome::Stop;
-use trail::by_two;
+use steps::by_two;
 use walk::Found;
 use walk::cut;
 use walk::part;

@@ -8,7 +8,7 @@ use calendar::Day;
 use calendar::day_of;
 use marks::stop_marks;
 use roll::stop_of;
-use trail::by_two;
+use steps::by_two;
 use trips::runs::trip_runs;
 use walk::Found;
 use walk::cut;

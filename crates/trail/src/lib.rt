@@ -172,10 +172,10 @@ fn first_entry(file: u64, s: &[u8], part: &[u32], up: bool, line: u64, trip: u64
 {
     let hi = line * 1000000000 + trip;
     if up {
-        let i = lower(file, s, part, Key { hi: hi, lo: 0 });
+        let i = lower(file, s, part, Key { hi: hi, lo: 0 }, part.len());
         return entry_from(file, s, part, i, line, trip);
     }
-    let i = lower(file, s, part, Key { hi: hi + 1, lo: 0 });
+    let i = lower(file, s, part, Key { hi: hi + 1, lo: 0 }, part.len());
     entry_below(file, s, part, i, line, trip)
 }
 
@@ -199,7 +199,7 @@ fn entry_of(file: u64, s: &[u8], part: &[u32], at: usize, entry: usize) -> usize
     if part.len() == 0 {
         return 0;
     }
-    lower(file, s, part, key_at(file, s, at))
+    lower(file, s, part, key_at(file, s, at), entry)
 }
 
 // A step by an index whose keys are all different.
@@ -312,7 +312,16 @@ pub fn by_one(file: u64, s: &[u8], order: &[u32], ways: &[usize], last: usize, a
     ensures { λ r. ⌜ r ≡ firstWith file (a ∷ []) 0 (recordsIn (fieldsOf file) (now (s .entry))) ⌝ }
 {
     let i = (file as usize) * 3;
-    with_one(file, s, ways[i] == 1, index_of(order, ways, file), last, a)
+    let hit = with_one(
+        file,
+        s,
+        ways[i] == 1,
+        index_of(order, ways, file),
+        last,
+        order.len(),
+        a,
+    );
+    hit.found
 }
 
 // inner: the same by two numbers
@@ -329,13 +338,15 @@ pub fn by_two(
     ensures { λ r. ⌜ r ≡ firstWith file (a ∷ b ∷ []) 0 (recordsIn (fieldsOf file) (now (s .entry))) ⌝ }
 {
     let i = (file as usize) * 3;
-    with_two(
+    let hit = with_two(
         file,
         s,
         ways[i] == 1,
         index_of(order, ways, file),
         last,
+        order.len(),
         a,
         b,
-    )
+    );
+    hit.found
 }

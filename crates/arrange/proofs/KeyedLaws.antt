@@ -12,8 +12,7 @@ use Rattle.file.specs.Files.{fieldsOf, longest}
 use Rattle.file.specs.Format.{Fields, Permitted}
 use Rattle.field.specs.Rules.{meets}
 use Rattle.field.specs.Stage.{firstUnkind, recordFault, faultsFrom, fieldFault}
-use Rattle.keys.specs.Ranks.{IsKeyed, AllKeyed}
-use Rattle.keys.specs.KeyFiles.{KeyFile}
+use Rattle.keys.specs.Ranks.{AllKeyed}
 use Rattle.thirteen.specs.Batch.{Batch, fileIn, recordsOf}
 use Rattle.thirteen.proofs.OverLaws.{over-each}
 use Rattle.lines.proofs.LineLaws.{all-permitted}
@@ -21,7 +20,7 @@ use Rattle.link.proofs.KindOfLinks.{keyed-kinds}
 use Rattle.alone.specs.Order.{lengthFault, firstFault, fileStages}
 use Rattle.alone.proofs.FileLaws.{some-fields, legal-files}
 use Rattle.alone.proofs.OrderLaws.{first-each}
-use Rattle.arrange.specs.Keyed.{KeyedFiles}
+use Rattle.parts.specs.Keyed.{KeyedFiles}
 
 -- records in whose fields nothing is found have numbers in their keys
 faultless-keyed : (file k : ℕ) (rs : List Fields) → faultsFrom file k rs .number ≡ 0 → Permitted (fieldsOf file) rs → AllKeyed file rs
@@ -60,7 +59,3 @@ keyed-files b e file k =
       },
       not-long b file long,
     )
-
--- the file that was chosen by its number
-pub chosen : (b : Batch) (file : ℕ) (s : List ℕ) → KeyedFiles b → IsKeyed file → s ≡ fileIn b file → KeyFile file s × (length s ≤ longest)
-chosen b file s k i e = rw e (k file i)

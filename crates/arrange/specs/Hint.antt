@@ -1,41 +1,18 @@
 -- The hint of a batch: for each keyed file whose keys don't rise by themselves, where its records start, in order of key and place, one file
 -- behind the other. It is what the calls that take a hint look for; no answer of theirs depends on it.
-use Prim.Native.Nat.{ℕ, zero, suc, _+_}
+use Prim.Native.Nat.{ℕ}
 use mathlib.Core.Path.{_≡_}
-use mathlib.Core.List.{List, [], _∷_, _++_}
+use mathlib.Core.List.{List, [], _∷_}
 use lib.Dec.{eqb, leb}
 use lib.ListN.{length}
 use Rattle.laws.specs.Tests.{pick}
 use Rattle.laws.specs.Numbered.{Numbered, answered, refused}
 use Rattle.laws.specs.Splice.{splice}
-use Rattle.file.specs.Files.{fieldsOf}
-use Rattle.file.specs.Records.{recordsIn}
-use Rattle.lines.specs.Index.{starts}
-use Rattle.lines.specs.Order.{isRising}
-use Rattle.keys.specs.Ranks.{rankOf}
-use Rattle.thirteen.specs.Batch.{Batch, fileIn, orElse}
+use Rattle.thirteen.specs.Batch.{Batch, orElse}
 use Rattle.fault.specs.Answers.{numberedFault}
 use Rattle.alone.specs.Order.{firstFault, fileStages}
-use Rattle.ranked.specs.Ranked.{inOrder}
-use Rattle.heap.specs.Places.{keyRank}
+use Rattle.parts.specs.Parts.{hintOf}
 use Rattle.arrange.specs.declared.Arranged.{Arranged}
-
--- where the records of a file start, in order of key and place
-unfoldable pub startsInOrder : ℕ → List ℕ → List ℕ
-startsInOrder file s = inOrder (keyRank file s) (starts (fieldsOf file) (rankOf file) s)
-
--- a file's part of the hint: none if its keys rise
-unfoldable pub partOf : ℕ → List ℕ → List ℕ
-partOf file s = pick (isRising (rankOf file) (recordsIn (fieldsOf file) s)) [] (startsInOrder file s)
-
--- those of `count` files, from this one on
-unfoldable pub partsFrom : Batch → ℕ → ℕ → List ℕ
-partsFrom b file zero = []
-partsFrom b file (suc count) = partOf file (fileIn b file) ++ partsFrom b (file + 1) count
-
--- files 2-10 have keys
-abbrev pub hintOf : Batch → List ℕ
-hintOf b = partsFrom b 2 9
 
 -- what comes back: how many places were written; what is wrong with a file by itself, 1 to 6, so that keys are numbers; then 22 if there is no room
 unfoldable pub hintAnswer : Batch → ℕ → Numbered

@@ -1,3 +1,2 @@
 pub mod Hint
-pub mod Keyed
 pub mod OneResult

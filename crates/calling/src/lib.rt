@@ -1,7 +1,7 @@
 // A trip's stops: document 01, "A trip's stops". Its records are walked through in Zasspoje in travel order.
-use trail::Step;
-use trail::first_step;
-use trail::step_on;
+use entries::Step;
+use steps::first_step;
+use steps::step_on;
 use walk::cut;
 ghost use mathlib.Core.Path.{_≡_};
 ghost use Prim.Native.Nat.{_<_};

@@ -10,7 +10,7 @@ use halts::count_stops;
 use halts::nth_stop;
 use halts::stop_has;
 use halts::timed_behind;
-use trail::by_two;
+use steps::by_two;
 use walk::Found;
 use walk::cut;
 use walk::part;

@@ -3,7 +3,7 @@ use batch::check_with;
 use fault::Fault;
 use fault::is_none;
 use file::classes;
-use trail::by_two;
+use steps::by_two;
 use trips::runs::trip_runs;
 use walk::Found;
 ghost use mathlib.Core.Path.{_≡_};

@@ -1,11 +1,11 @@
 // A trip's stops one by one: how many it has, the nth in travel order, whether a later one has a time, and the signs of one.
 use calling::first_of;
 use coded::code_sign;
+use entries::Step;
 use field::value_of;
-use trail::Step;
-use trail::by_two;
-use trail::onward;
-use trail::step_on;
+use steps::by_two;
+use steps::onward;
+use steps::step_on;
 use walk::Found;
 use walk::cut;
 use walk::part;

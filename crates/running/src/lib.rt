@@ -1,8 +1,8 @@
 // A trip's days: document 01, "Days". Its record of Spoje was cut; its time codes are walked through in Caskody, and the signs of its codes are
 // looked up in Pevnykod.
 use coded::code_sign;
-use trail::first_step;
-use trail::step_on;
+use steps::first_step;
+use steps::step_on;
 use walk::cut;
 ghost use mathlib.Core.Path.{_≡_};
 ghost use mathlib.Core.Bool.{true, false};

@@ -7,7 +7,7 @@ use fault::is_none;
 use file::classes;
 use halts::stop_marks;
 use roll::stop_of;
-use trail::by_two;
+use steps::by_two;
 use trips::runs::trip_runs;
 use walk::Found;
 use walk::cut;

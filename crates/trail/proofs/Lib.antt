@@ -2,4 +2,3 @@ pub mod ListLaws
 pub mod TrailLaws
 pub mod WalkLaws
 pub mod NumberLaws
-pub mod StepLaws

@@ -7,7 +7,7 @@ use denote.Ref.{now}
 use lib.ListN.{length}
 use Rattle.thirteen.specs.Batch.{Batch, thirteen}
 use Rattle.alone.specs.Order.{firstFault, fileStages}
-use Rattle.arrange.specs.Hint.{hintOf}
+use Rattle.parts.specs.Parts.{hintOf}
 use Rattle.arrange.proofs.KeyedLaws.{keyed-files}
 use Rattle.arrange.proofs.HintLaws.{hint-refused, nothing-wrong, hint-no-room, hint-made}
 use Rattle.arrange.proofs.arrange.Statement.{statement}

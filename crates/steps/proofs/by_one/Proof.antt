@@ -1,0 +1,25 @@
+-- `steps::by_one` meets its contract: the search goes the way that was made out for its file.
+use mathlib.Core.Path.{refl}
+use borrow.Author.Needs.{needs}
+use denote.Ref.{now}
+use Rattle.trail.proofs.WalkLaws.{way-asks}
+use Rattle.steps.proofs.by_one.Statement.{statement}
+use Rattle.steps.proofs.by_one.Tie as tie
+
+with-one-requires : tie.Need-with-one-requires
+with-one-requires c κs =
+    let start = c .before .before .before .before .before in
+    let a = start .args in
+    let p = start .pre in
+    (way-asks (a .file) (now (a .s)) (now (a .order)) (now (a .ways)) (a .last) 1 (p .1) (p .2) (p .3) _ refl _ (c .index-of .ensures), p .4)
+
+pub by-one-spec : {M : Type 1} → statement M
+by-one-spec =
+    tie.close
+    (tie.spec
+    (λ c. search needs)  -- mul-i
+    (λ c. search needs)  -- mul-with-one
+    (λ c. search needs)  -- shared-slice-read-with-one
+    (λ c κs. search needs)  -- index-of-requires
+    with-one-requires
+    (λ c. search needs))  -- returns

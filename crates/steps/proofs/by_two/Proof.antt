@@ -1,0 +1,25 @@
+-- `steps::by_two` meets its contract: the search goes the way that was made out for its file.
+use mathlib.Core.Path.{refl}
+use borrow.Author.Needs.{needs}
+use denote.Ref.{now}
+use Rattle.trail.proofs.WalkLaws.{way-asks}
+use Rattle.steps.proofs.by_two.Statement.{statement}
+use Rattle.steps.proofs.by_two.Tie as tie
+
+with-two-requires : tie.Need-with-two-requires
+with-two-requires c κs =
+    let start = c .before .before .before .before .before in
+    let a = start .args in
+    let p = start .pre in
+    (way-asks (a .file) (now (a .s)) (now (a .order)) (now (a .ways)) (a .last) 2 (p .1) (p .2) (p .3) _ refl _ (c .index-of .ensures), p .4, p .5)
+
+pub by-two-spec : {M : Type 1} → statement M
+by-two-spec =
+    tie.close
+    (tie.spec
+    (λ c. search needs)  -- mul-i
+    (λ c. search needs)  -- mul-with-two
+    (λ c. search needs)  -- shared-slice-read-with-two
+    (λ c κs. search needs)  -- index-of-requires
+    with-two-requires
+    (λ c. search needs))  -- returns

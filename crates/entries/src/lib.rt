@@ -96,10 +96,10 @@ pub fn first_entry(file: u64, s: &[u8], part: &[u32], up: bool, line: u64, trip:
 {
     let hi = line * 1000000000 + trip;
     if up {
-        let i = lower(file, s, part, Key { hi: hi, lo: 0 });
+        let i = lower(file, s, part, Key { hi: hi, lo: 0 }, part.len());
         return entry_from(file, s, part, i, line, trip);
     }
-    let i = lower(file, s, part, Key { hi: hi + 1, lo: 0 });
+    let i = lower(file, s, part, Key { hi: hi + 1, lo: 0 }, part.len());
     entry_below(file, s, part, i, line, trip)
 }
 
@@ -123,5 +123,5 @@ pub fn entry_of(file: u64, s: &[u8], part: &[u32], at: usize, entry: usize) -> u
     if part.len() == 0 {
         return 0;
     }
-    lower(file, s, part, key_at(file, s, at))
+    lower(file, s, part, key_at(file, s, at), entry)
 }

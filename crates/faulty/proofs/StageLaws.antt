@@ -251,9 +251,9 @@ onward-known b file order ways last class new o f k t l =
     record { sound = f; looks = record { size = k .size; routes = k .routes; lasts = l }; table = t; stops = λ e. stops-met b (o .stops (omega arith)) }
 
 -- Before any search, the place that is remembered for each file is its start.
-pub lasts-start : (b : Batch) → SoundFiles b → Lasts b (replicate 11 0)
+pub lasts-start : (b : Batch) → SoundFiles b → Lasts b (replicate 22 0)
 lasts-start b f =
     record {
       size = omega arith;
-      place = λ file k. rw (zeros 11 file) (place-start (fieldsOf file) (fileIn b file) (f file (k .0) (omega (arith, k .1)) .legal));
+      place = λ file k. rw (zeros 22 file) (place-start (fieldsOf file) (fileIn b file) (f file (k .0) (omega (arith, k .1)) .legal));
     }

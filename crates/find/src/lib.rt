@@ -1,9 +1,10 @@
 // A record by its key, in three ways that meet one promise, `firstWith`: the first record that has the key, by its place, or none. Where keys
 // rise, the place that was found last and the one behind it are tried, then bisection; else a lent index, if there is one; else every record.
+use hinted::lower;
 use keys::Key;
 use keys::key_at;
 use search::among_rising;
-use search::by_index;
+use search::at_entry;
 use search::by_search;
 use walk::Found;
 ghost use mathlib.Core.Path.{_≡_};
@@ -18,26 +19,58 @@ ghost use Rattle.lines.specs.Order.{firstRanked};
 ghost use Rattle.keys.specs.KeyFiles.{PlaceIn};
 ghost use Rattle.find.specs.Find.{Serves, Asks};
 
-// In whichever way serves.
-fn first_ranked(file: u64, s: &[u8], rises: bool, part: &[u32], last: usize, k: Key) -> Found
+// What was found, and the entry of the index that led to it: the next search looks there first, and nothing is promised of it.
+pub struct Hit {
+    pub found: Found,
+    pub entry: usize,
+}
+
+// In whichever way serves; `near` is the entry to look at first, any number.
+fn first_ranked(
+    file: u64,
+    s: &[u8],
+    rises: bool,
+    part: &[u32],
+    last: usize,
+    near: usize,
+    k: Key,
+) -> Hit
     requires { ⌜ Serves file (now s) rises (now part) × PlaceIn file (now s) last × (k .lo < none) ⌝ }
-    ensures { λ r. ⌜ r ≡ firstRanked (rankOf file) (rankKey k) 0 (recordsIn (fieldsOf file) (now (s .entry))) ⌝ }
+    ensures { λ r. ⌜ r .found ≡ firstRanked (rankOf file) (rankKey k) 0 (recordsIn (fieldsOf file) (now (s .entry))) ⌝ }
 {
     if rises {
-        return among_rising(file, s, last, k);
+        return Hit {
+            found: among_rising(file, s, last, k),
+            entry: near,
+        };
     }
     if part.len() > 0 {
-        return by_index(file, s, part, k);
+        let entry = lower(file, s, part, k, near);
+        return Hit {
+            found: at_entry(file, s, part, k, entry),
+            entry: entry,
+        };
     }
-    by_search(file, s, k)
+    Hit {
+        found: by_search(file, s, k),
+        entry: near,
+    }
 }
 
 // inner: the first record whose key is the number a
-pub fn with_one(file: u64, s: &[u8], rises: bool, part: &[u32], last: usize, a: u64) -> Found
+pub fn with_one(
+    file: u64,
+    s: &[u8],
+    rises: bool,
+    part: &[u32],
+    last: usize,
+    near: usize,
+    a: u64,
+) -> Hit
     requires { ⌜ Asks file (now s) rises (now part) last 1 × (a < none) ⌝ }
-    ensures { λ r. ⌜ r ≡ firstWith file (a ∷ []) 0 (recordsIn (fieldsOf file) (now (s .entry))) ⌝ }
+    ensures { λ r. ⌜ r .found ≡ firstWith file (a ∷ []) 0 (recordsIn (fieldsOf file) (now (s .entry))) ⌝ }
 {
-    first_ranked(file, s, rises, part, last, Key { hi: a, lo: 0 })
+    first_ranked(file, s, rises, part, last, near, Key { hi: a, lo: 0 })
 }
 
 // inner: the numbers a and b
@@ -47,11 +80,12 @@ pub fn with_two(
     rises: bool,
     part: &[u32],
     last: usize,
+    near: usize,
     a: u64,
     b: u64,
-) -> Found
+) -> Hit
     requires { ⌜ Asks file (now s) rises (now part) last 2 × (a < none) × (b < none) ⌝ }
-    ensures { λ r. ⌜ r ≡ firstWith file (a ∷ b ∷ []) 0 (recordsIn (fieldsOf file) (now (s .entry))) ⌝ }
+    ensures { λ r. ⌜ r .found ≡ firstWith file (a ∷ b ∷ []) 0 (recordsIn (fieldsOf file) (now (s .entry))) ⌝ }
 {
     first_ranked(
         file,
@@ -59,6 +93,7 @@ pub fn with_two(
         rises,
         part,
         last,
+        near,
         Key {
             hi: a * 1000000000 + b,
             lo: 0,
@@ -81,7 +116,16 @@ pub fn with_three(
     ensures { λ r. ⌜ r ≡ firstWith file (a ∷ b ∷ c ∷ []) 0 (recordsIn (fieldsOf file) (now (s .entry))) ⌝ }
 {
     let hi = a * 1000000000 + b;
-    first_ranked(file, s, rises, part, last, Key { hi: hi, lo: c })
+    let hit = first_ranked(
+        file,
+        s,
+        rises,
+        part,
+        last,
+        part.len(),
+        Key { hi: hi, lo: c },
+    );
+    hit.found
 }
 
 // inner: whether a record before the one that starts at `at` has its key
@@ -89,7 +133,9 @@ pub fn used_before(file: u64, s: &[u8], rises: bool, part: &[u32], at: usize) ->
     requires { ⌜ Serves file (now s) rises (now part) × PlaceIn file (now s) at × (at < length (now s)) ⌝ }
     ensures { λ r. ⌜ ((p : PlaceIn file (now (s .entry)) at) → r ≡ has file (keyOf file (recordAt file (now (s .entry)) at)) (p .past)) ⌝ }
 {
-    match first_ranked(file, s, rises, part, at, key_at(file, s, at)) {
+    let hit = first_ranked(file, s, rises, part, at, part.len(), key_at(file, s, at));
+    let found = hit.found;
+    match found {
         Found::At(first) => first < at,
         Found::Nothing => false,
     }

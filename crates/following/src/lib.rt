@@ -95,6 +95,7 @@ fn next_by_index(file: u64, s: &[u8], order: &[u32], line: u64, trip: u64, x: u6
             hi: line * 1000000000 + trip,
             lo: x,
         },
+        order.len(),
     );
     if i >= order.len() {
         return Found::Nothing;

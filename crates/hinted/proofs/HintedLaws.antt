@@ -1,6 +1,6 @@
 -- The look at a lent list, entry by entry, and what an index says of the records of a file by their keys.
 use mathlib.Core.Path.{_≡_, refl, sym, ap, _∙_}
-use mathlib.Core.Bool.{false}
+use mathlib.Core.Bool.{Bool, true, false}
 use mathlib.Core.List.{List, [], _∷_, _++_}
 use Prim.Native.Nat.{ℕ, _+_, _-_, _^_, _≤_, _<_}
 use native.Mathlib.Omega.{arith}
@@ -15,14 +15,14 @@ use Rattle.file.specs.Records.{recordsIn}
 use Rattle.walk.specs.declared.Found.the-variants.{At, Nothing}
 use Rattle.lines.specs.Order.{firstRanked}
 use Rattle.lines.specs.Index.{Start, Good}
-use Rattle.lines.proofs.IndexLaws.{place-known, index-is, index-from, index-none, index-hit, index-miss, distinct-entries}
+use Rattle.lines.proofs.IndexLaws.{place-known, index-is, index-from, index-none, index-below, index-hit, index-miss, distinct-entries}
 use Rattle.keys.specs.Keys.{keyFields, keyOf, has}
 use Rattle.keys.specs.Ranks.{AllKeyed, rankOf, rankKey, KeyIs, recordAt}
 use Rattle.keys.specs.KeyFiles.{KeyFile, PlaceIn, IsIndex}
 use Rattle.keys.specs.declared.Key.{Key}
 use Rattle.keys.proofs.KeyLaws.{key-size, key-small}
 use Rattle.keys.proofs.KeyFileLaws.{key-here, has-rank}
-use Rattle.hinted.specs.Hinted.{entryRank, KeysApart, Goes, Looked, Lower}
+use Rattle.hinted.specs.Hinted.{entryRank, KeysApart, Goes, Looked, Lower, Between}
 
 -- each record has a key: so have the first ones
 keyed-init : (file : ℕ) (a b : List Fields) → AllKeyed file (a ++ b) → AllKeyed file a
@@ -104,6 +104,34 @@ module _ (file : ℕ) (s order : List ℕ) where
     index = λ q. index-is (fieldsOf file) (rankOf file) s order e (λ j l. absurd (omega arith));
     apart = λ q j l. absurd (omega arith);
   }
+
+-- The first entry from x on stands between two: an entry between them that is looked at leaves it on one side, and where they meet it is.
+module _ (file : ℕ) (s order : List ℕ) (x : ℕ) where
+  -- nothing is known
+  pub between-all : Between file s order x 0 (length order)
+  between-all = record { ends = omega arith; near = omega arith; below = λ i h. absurd (omega arith); «from» = λ h. absurd (omega arith) }
+
+  module _ (lo hi m : ℕ) (b : Between file s order x lo hi) (h : m < hi) where
+    pub between-up : IsIndex file s order → {r : Bool} → r ≡ ltb (entryRank file s order m) x → r ≡ true → Between file s order x (m + 1) hi
+    between-up index e t = record {
+      ends = omega arith;
+      near = b .near;
+      below = index-below (fieldsOf file) (rankOf file) s order x index m (omega (arith, b .near)) (ltb-true (entryRank file s order m) x (sym e ∙ t));
+      «from» = b .«from»;
+    }
+
+    pub between-down : lo ≤ m → {r : Bool} → r ≡ ltb (entryRank file s order m) x → r ≡ false → Between file s order x lo m
+    between-down g e t = record {
+      ends = g;
+      near = omega (arith, b .near);
+      below = b .below;
+      «from» = λ _. ltb-false (entryRank file s order m) x (sym e ∙ t);
+    }
+
+  pub between-met : (lo hi : ℕ) → Between file s order x lo hi → hi ≤ lo → Lower file s order x lo
+  between-met lo hi b h =
+      let e : hi ≡ lo = omega (arith, b .ends) in
+      record { near = omega (arith, b .near); below = b .below; «from» = rw e at (b .«from») }
 
 -- a record with the least key from some on, and of those with its key the first
 pub record Least (file : ℕ) (s order : List ℕ) (m p : ℕ) : Type 0 where

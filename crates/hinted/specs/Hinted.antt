@@ -31,3 +31,10 @@ pub record Lower (file : ℕ) (s order : List ℕ) (x m : ℕ) : Type 0 where
   pub near : m ≤ length order
   pub below : (i : ℕ) → i < m → entryRank file s order i < x
   pub «from» : m < length order → x ≤ entryRank file s order m
+
+-- that entry is none before lo and none behind hi
+pub record Between (file : ℕ) (s order : List ℕ) (x lo hi : ℕ) : Type 0 where
+  pub ends : lo ≤ hi
+  pub near : hi ≤ length order
+  pub below : (i : ℕ) → i < lo → entryRank file s order i < x
+  pub «from» : hi < length order → x ≤ entryRank file s order hi

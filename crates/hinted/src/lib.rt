@@ -7,6 +7,7 @@ use lines::line_after;
 ghost use mathlib.Core.Path.{_≡_};
 ghost use mathlib.Core.Bool.{true};
 ghost use Prim.Native.Nat.{_≤_, _<_, _^_};
+ghost use lib.Dec.{ltb};
 ghost use lib.ListN.{length};
 ghost use Rattle.file.specs.Files.{fieldsOf};
 ghost use Rattle.file.specs.Records.{recordsIn};
@@ -14,7 +15,7 @@ ghost use Rattle.keys.specs.Keys.{none};
 ghost use Rattle.keys.specs.Ranks.{rankOf, rankKey};
 ghost use Rattle.lines.specs.Index.{Start};
 ghost use Rattle.keys.specs.KeyFiles.{KeyFile, IsIndex};
-ghost use Rattle.hinted.specs.Hinted.{Goes, Looked, Lower};
+ghost use Rattle.hinted.specs.Hinted.{entryRank, Goes, Looked, Between, Lower};
 
 // inner: how many records a file has
 pub fn count(file: u64, s: &[u8]) -> usize
@@ -104,21 +105,71 @@ pub fn look_at(file: u64, s: &[u8], order: &[u32]) -> usize
     kind
 }
 
-// inner: the first entry of an index whose key isn't below x, or how many entries there are
-pub fn lower(file: u64, s: &[u8], order: &[u32], x: Key) -> usize
-    requires { ⌜ KeyFile file (now s) × IsIndex file (now s) (now order) × (x .lo < none) ⌝ }
+// Whether the key at an entry is below x.
+fn is_below(file: u64, s: &[u8], order: &[u32], x: Key, i: usize) -> bool
+    requires { ⌜ KeyFile file (now s) × IsIndex file (now s) (now order) × (x .lo < none) × (i < length (now order)) ⌝ }
+    ensures { λ r. ⌜ r ≡ ltb (entryRank file (now (s .entry)) (now (order .entry)) i) (rankKey x) ⌝ }
+{
+    less(key_at(file, s, order[i] as usize), x)
+}
+
+// The first entry of an index whose key isn't below x, or how many entries there are, where it is known to stand between two entries.
+fn lower_within(file: u64, s: &[u8], order: &[u32], x: Key, from: usize, end: usize) -> usize
+    requires { ⌜ KeyFile file (now s) × IsIndex file (now s) (now order) × (x .lo < none) × Between file (now s) (now order) (rankKey x) from end ⌝ }
     ensures { λ r. ⌜ Lower file (now (s .entry)) (now (order .entry)) (rankKey x) r ⌝ }
 {
-    let mut lo = 0;
-    let mut hi = order.len();
+    let mut lo = from;
+    let mut hi = end;
     while lo < hi {
         let mid = lo + (hi - lo) / 2;
-        let at = order[mid] as usize;
-        if less(key_at(file, s, at), x) {
+        if is_below(file, s, order, x, mid) {
             lo = mid + 1;
         } else {
             hi = mid;
         }
     }
     lo
+}
+
+// The same where it is no entry before `from`: that one is tried first.
+fn lower_from(file: u64, s: &[u8], order: &[u32], x: Key, from: usize) -> usize
+    requires { ⌜ KeyFile file (now s) × IsIndex file (now s) (now order) × (x .lo < none) × Between file (now s) (now order) (rankKey x) from (length (now order)) ⌝ }
+    ensures { λ r. ⌜ Lower file (now (s .entry)) (now (order .entry)) (rankKey x) r ⌝ }
+{
+    if from >= order.len() {
+        return from;
+    }
+    if is_below(file, s, order, x, from) {
+        return lower_within(file, s, order, x, from + 1, order.len());
+    }
+    from
+}
+
+// The same where it is no entry behind `end`: that one is tried first.
+fn lower_till(file: u64, s: &[u8], order: &[u32], x: Key, end: usize) -> usize
+    requires { ⌜ KeyFile file (now s) × IsIndex file (now s) (now order) × (x .lo < none) × Between file (now s) (now order) (rankKey x) 0 end ⌝ }
+    ensures { λ r. ⌜ Lower file (now (s .entry)) (now (order .entry)) (rankKey x) r ⌝ }
+{
+    if end == 0 {
+        return 0;
+    }
+    if is_below(file, s, order, x, end - 1) {
+        return end;
+    }
+    lower_within(file, s, order, x, 0, end - 1)
+}
+
+// inner: the first entry of an index whose key isn't below x, or how many entries there are. Walks ask for the entry at or beside the one
+// that was found last: `near` is where to look first, any number, and the answer is the same with each
+pub fn lower(file: u64, s: &[u8], order: &[u32], x: Key, near: usize) -> usize
+    requires { ⌜ KeyFile file (now s) × IsIndex file (now s) (now order) × (x .lo < none) ⌝ }
+    ensures { λ r. ⌜ Lower file (now (s .entry)) (now (order .entry)) (rankKey x) r ⌝ }
+{
+    if near >= order.len() {
+        return lower_within(file, s, order, x, 0, order.len());
+    }
+    if is_below(file, s, order, x, near) {
+        return lower_from(file, s, order, x, near + 1);
+    }
+    lower_till(file, s, order, x, near)
 }

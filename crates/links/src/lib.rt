@@ -200,7 +200,7 @@ pub fn links_fault<'a>(
     requires { ⌜ SoundFiles (thirteen (now f1) (now f2) (now f3) (now f4) (now f5) (now f6) (now f7) (now f8) (now f9) (now f10) (now f11) (now f12) (now f13)) × (33 ≤ length (now ways)) × Ways (thirteen (now f1) (now f2) (now f3) (now f4) (now f5) (now f6) (now f7) (now f8) (now f9) (now f10) (now f11) (now f12) (now f13)) (now order) (now ways) × Classes (now class) ⌝ }
     ensures { λ r. ⌜ numberedLinked r ≡ linksFault (thirteen (now (f1 .entry)) (now (f2 .entry)) (now (f3 .entry)) (now (f4 .entry)) (now (f5 .entry)) (now (f6 .entry)) (now (f7 .entry)) (now (f8 .entry)) (now (f9 .entry)) (now (f10 .entry)) (now (f11 .entry)) (now (f12 .entry)) (now (f13 .entry))) ⌝ }
 {
-    let mut last: [usize; 11] = [0; 11];
+    let mut last: [usize; 22] = [0; 22];
     let mut table: [u64; 4093] = [0; 4093];
     files_fault(
         class,

@@ -122,6 +122,13 @@ lasts-at b last file at l h p = record { size = rw (length-set last file at) (l 
     go k f (yes e) = rw (e, getD-set-same last file at 0 (omega (arith, l .size))) p
     go k f (no e) = rw (getD-set-other last file k at 0 e) (l .place k f)
 
+-- an entry that is remembered
+pub lasts-entry : (b : Batch) (last : List ℕ) (file entry : ℕ) → Lasts b last → Lasts b (set last (file + 11) entry)
+lasts-entry b last file entry l = record {
+  size = rw (length-set last (file + 11) entry) (l .size);
+  place = λ k f. rw (getD-set-other last (file + 11) k entry 0 (λ (e : k ≡ file + 11). omega (arith, f .1))) (l .place k f);
+}
+
 -- what was found by a key is where a record starts
 found-there : (file : ℕ) (s k : List ℕ) (p : ℕ) → KeyFile file s → Small k → length k ≡ length (keyFields file) → firstWith file k 0 (recordsIn (fieldsOf file) s) ≡ At p → PlaceIn file s p
 found-there file s k p f small size e =

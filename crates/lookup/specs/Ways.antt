@@ -60,9 +60,9 @@ Ways b order ways = (file : ℕ) → IsKeyed file → WayTo b order ways file
 abbrev pub KeyFiles : Batch → Type 0
 KeyFiles b = (file : ℕ) → IsKeyed file → KeyFile file (fileIn b file)
 
--- where a record was found last in each file
+-- where a record was found last in each file; eleven places on, the entry of the file's index that led to it, of which nothing is asked
 pub record Lasts (b : Batch) (last : List ℕ) : Type 0 where
-  pub size : 11 ≤ length last
+  pub size : 22 ≤ length last
   pub place : (file : ℕ) → IsKeyed file → PlaceIn file (fileIn b file) (getD last file 0)
 
 -- what a search asks

@@ -156,8 +156,10 @@ pub fn look_one<'a>(
     let s = file_of(file, f1, f2, f3, f4, f5, f6, f7, f8, f9, f10, f11, f12, f13);
     let i = file as usize;
     let part = index_of(order, ways, file);
-    let found = with_one(file, s, ways[i * 3] == 1, part, last[i], a);
+    let hit = with_one(file, s, ways[i * 3] == 1, part, last[i], last[i + 11], a);
+    let found = hit.found;
     last[i] = found_or(found, last[i]);
+    last[i + 11] = hit.entry;
     found
 }
 
@@ -189,7 +191,9 @@ pub fn look_two<'a>(
     let s = file_of(file, f1, f2, f3, f4, f5, f6, f7, f8, f9, f10, f11, f12, f13);
     let i = file as usize;
     let part = index_of(order, ways, file);
-    let found = with_two(file, s, ways[i * 3] == 1, part, last[i], a, b);
+    let hit = with_two(file, s, ways[i * 3] == 1, part, last[i], last[i + 11], a, b);
+    let found = hit.found;
     last[i] = found_or(found, last[i]);
+    last[i + 11] = hit.entry;
     found
 }

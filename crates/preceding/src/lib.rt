@@ -42,7 +42,7 @@ fn number_by_index(file: u64, s: &[u8], order: &[u32], line: u64, trip: u64, x: 
     requires { ⌜ KeyFile file (now s) × (length (keyFields file) ≡ 3) × IsIndex file (now s) (now order) × (line < none) × (trip < none) × (x ≤ none) ⌝ }
     ensures { λ r. ⌜ r ≡ previousNumber file line trip x (recordsIn (fieldsOf file) (now (s .entry))) ⌝ }
 {
-    let i = lower(file, s, order, key_of(line, trip, x));
+    let i = lower(file, s, order, key_of(line, trip, x), order.len());
     if i == 0 {
         return 0;
     }

@@ -1,6 +1,5 @@
 // A record by its key, in three ways that meet one promise, the first record whose key has the rank: where keys rise, the place that was found last and
 // the one behind it are tried, then bisection; by a lent index; record by record. Which of them serves is seen in the crate `find`.
-use hinted::lower;
 use keys::Key;
 use keys::equal;
 use keys::key_at;
@@ -15,6 +14,7 @@ ghost use Rattle.keys.specs.Keys.{none};
 ghost use Rattle.keys.specs.Ranks.{rankOf, rankKey};
 ghost use Rattle.lines.specs.Order.{firstRanked};
 ghost use Rattle.keys.specs.KeyFiles.{KeyFile, KeysRise, PlaceIn, IsIndex};
+ghost use Rattle.hinted.specs.Hinted.{Lower};
 
 // inner: where keys rise
 pub fn among_rising(file: u64, s: &[u8], last: usize, k: Key) -> Found
@@ -31,12 +31,11 @@ pub fn among_rising(file: u64, s: &[u8], last: usize, k: Key) -> Found
     Found::Nothing
 }
 
-// inner: by an index
-pub fn by_index(file: u64, s: &[u8], order: &[u32], k: Key) -> Found
-    requires { ⌜ KeyFile file (now s) × IsIndex file (now s) (now order) × (k .lo < none) ⌝ }
+// inner: by an index, at its first entry whose key isn't below k
+pub fn at_entry(file: u64, s: &[u8], order: &[u32], k: Key, i: usize) -> Found
+    requires { ⌜ KeyFile file (now s) × IsIndex file (now s) (now order) × Lower file (now s) (now order) (rankKey k) i × (k .lo < none) ⌝ }
     ensures { λ r. ⌜ r ≡ firstRanked (rankOf file) (rankKey k) 0 (recordsIn (fieldsOf file) (now (s .entry))) ⌝ }
 {
-    let i = lower(file, s, order, k);
     if i >= order.len() {
         return Found::Nothing;
     }

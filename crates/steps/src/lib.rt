@@ -205,7 +205,16 @@ pub fn by_one(file: u64, s: &[u8], order: &[u32], ways: &[usize], last: usize, a
     ensures { λ r. ⌜ r ≡ firstWith file (a ∷ []) 0 (recordsIn (fieldsOf file) (now (s .entry))) ⌝ }
 {
     let i = (file as usize) * 3;
-    with_one(file, s, ways[i] == 1, index_of(order, ways, file), last, a)
+    let hit = with_one(
+        file,
+        s,
+        ways[i] == 1,
+        index_of(order, ways, file),
+        last,
+        order.len(),
+        a,
+    );
+    hit.found
 }
 
 // inner: the same by two numbers
@@ -222,13 +231,15 @@ pub fn by_two(
     ensures { λ r. ⌜ r ≡ firstWith file (a ∷ b ∷ []) 0 (recordsIn (fieldsOf file) (now (s .entry))) ⌝ }
 {
     let i = (file as usize) * 3;
-    with_two(
+    let hit = with_two(
         file,
         s,
         ways[i] == 1,
         index_of(order, ways, file),
         last,
+        order.len(),
         a,
         b,
-    )
+    );
+    hit.found
 }

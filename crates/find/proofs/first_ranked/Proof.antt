@@ -9,7 +9,8 @@ first-ranked-spec =
     (tie.spec
     (λ c κs. let p = c .before .before .before .pre in (p .0 .keyed, p .0 .up (c .if1 .taken), p .1, p .2))  -- among-rising-requires
     (λ c. search needs)  -- returns
-    (λ c κs. let p = c .before .before .before .before .pre in (p .0 .keyed, p .0 .index (c .if2 .taken), p .2))  -- by-index-requires
+    (λ c κs. let p = c .before .before .before .before .pre in (p .0 .keyed, p .0 .index (c .if2 .taken), p .2))  -- lower-requires
+    (λ c κs. let p = c .before .before .before .before .before .pre in (p .0 .keyed, p .0 .index (c .before .if2 .taken), c .lower .ensures, p .2))  -- at-entry-requires
     (λ c. search needs)  -- returns-2
     (λ c κs. search needs)  -- by-search-requires
     (λ c. search needs))  -- returns-3

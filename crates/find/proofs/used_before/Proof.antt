@@ -14,7 +14,7 @@ returns c =
     let k = r .before .key-at in
     let p = r .before .before .before .before in
     let a = p .args in
-    back-at (a .file) (now (a .s)) (a .at) (p .pre .0 .keyed) (p .pre .1) (p .pre .2) (k .result) (k .ensures) _ (sym (c .before .first .given .1) ∙ r .first-ranked .ensures)
+    back-at (a .file) (now (a .s)) (a .at) (p .pre .0 .keyed) (p .pre .1) (p .pre .2) (k .result) (k .ensures) _ (sym (c .before .found .given .1) ∙ r .first-ranked .ensures)
 
 returns-2 : tie.Need-returns-2
 returns-2 c =

@@ -7,7 +7,7 @@ use file::Outcome;
 use file::Refusal;
 use file::classes;
 use file::fields_of;
-use reader::read;
+use scanner::read;
 use sweep::is_sound;
 use thirteen::file_of;
 use walk::cut;

@@ -13,8 +13,8 @@ use field::admits_text;
 use file::classes;
 use file::text_end;
 use kinds::kind_of;
-use reader::stands;
 use rules::meets_rules;
+use scanner::stands;
 
 // The first place from `at` on at which no digit stands.
 fn digits_end(s: &[u8], at: usize) -> usize

@@ -1,4 +1,4 @@
--- `reader::record_end` meets its contract: byte by byte, each stands where it is due, or the record breaks off there.
+-- `scanner::record_end` meets its contract: byte by byte, each stands where it is due, or the record breaks off there.
 use mathlib.Core.Path.{refl, sym, ap, _∙_}
 use mathlib.Core.Bool.{true}
 use mathlib.Core.List.{[], _∷_}
@@ -12,8 +12,8 @@ use Rattle.file.specs.Bytes.{semicolon, CR, LF}
 use Rattle.file.specs.Reader.{EndsNear}
 use Rattle.file.specs.declared.Ahead.the-variants.{Stop}
 use Rattle.file.proofs.FieldLaws.{matched-more, matched-none, matched-done, from-stop, from-field}
-use Rattle.reader.proofs.record_end.Statement.{statement}
-use Rattle.reader.proofs.record_end.Tie as tie
+use Rattle.scanner.proofs.record_end.Statement.{statement}
+use Rattle.scanner.proofs.record_end.Tie as tie
 
 returns : tie.Need-returns
 unfolding EndsNear

@@ -1,4 +1,4 @@
--- `reader::scan` meets its contract. The loop's invariant: what the reading comes to from `at` on, where a record may start, is what
+-- `scanner::scan` meets its contract. The loop's invariant: what the reading comes to from `at` on, where a record may start, is what
 -- the whole reading comes to.
 use mathlib.Core.Path.{_≡_, refl, sym, ap, _∙_}
 use Prim.Native.Nat.{ℕ, _+_, _-_, _≤_, _<_}
@@ -8,8 +8,8 @@ use lib.ListN.{length, drop, drop-of-length-le}
 use denote.Ref.{now}
 use Rattle.file.specs.Reader.{RecordAhead}
 use Rattle.file.specs.Reading.{opening, state, run, outcomeIn, outcome, reading, State}
-use Rattle.reader.proofs.scan.Statement.{statement}
-use Rattle.reader.proofs.scan.Tie as tie
+use Rattle.scanner.proofs.scan.Statement.{statement}
+use Rattle.scanner.proofs.scan.Tie as tie
 
 abbrev Inv-loop : tie.InvT-loop
 Inv-loop s n class at₀ records₀ at records = (at ≤ length s) × (records ≤ at) × (outcome (run n (state opening 0 records at 0) (drop at s)) ≡ reading n s)

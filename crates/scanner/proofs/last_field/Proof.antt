@@ -1,4 +1,4 @@
--- `reader::last_field` meets its contract: what lies ahead of an opening quote is what follows its text's closing.
+-- `scanner::last_field` meets its contract: what lies ahead of an opening quote is what follows its text's closing.
 use mathlib.Core.Path.{sym, _∙_}
 use mathlib.Core.Bool.{true}
 use native.Mathlib.Omega.{arith}
@@ -7,8 +7,8 @@ use borrow.Author.Tests.{not-true, not-false}
 use denote.Ref.{now}
 use Rattle.file.specs.Reader.{AheadNear}
 use Rattle.file.proofs.PassLaws.{at-closed, at-unopened, near-as}
-use Rattle.reader.proofs.last_field.Statement.{statement}
-use Rattle.reader.proofs.last_field.Tie as tie
+use Rattle.scanner.proofs.last_field.Statement.{statement}
+use Rattle.scanner.proofs.last_field.Tie as tie
 
 returns : tie.Need-returns
 unfolding AheadNear

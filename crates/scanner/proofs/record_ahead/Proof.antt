@@ -1,4 +1,4 @@
--- `reader::record_ahead` meets its contract. The loop's invariant: the record comes to `at`, where its next field is due.
+-- `scanner::record_ahead` meets its contract. The loop's invariant: the record comes to `at`, where its next field is due.
 use mathlib.Core.Path.{_≡_, refl, sym, ap, _∙_}
 use mathlib.Core.Bool.{true, false}
 use mathlib.Core.List.{List, []}
@@ -16,8 +16,8 @@ use Rattle.file.specs.declared.Ahead.{Ahead}
 use Rattle.file.specs.declared.Ahead.the-variants.{Field, Stop}
 use Rattle.file.proofs.FieldLaws.{matched-more, matched-none, matched-done, from-stop, from-field}
 use Rattle.file.proofs.PassLaws.{at-closed, at-unopened, SoFar, so-far-first, so-far-next, so-far-last, so-far-stop}
-use Rattle.reader.proofs.record_ahead.Statement.{statement}
-use Rattle.reader.proofs.record_ahead.Tie as tie
+use Rattle.scanner.proofs.record_ahead.Statement.{statement}
+use Rattle.scanner.proofs.record_ahead.Tie as tie
 
 abbrev Inv-loop : tie.InvT-loop
 Inv-loop s start n class at₀ field₀ at field = (1 ≤ field) × (field ≤ n) × SoFar n s start at (field - 1)

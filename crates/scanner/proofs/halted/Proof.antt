@@ -1,7 +1,7 @@
--- `reader::halted` meets its contract: a byte stands at a place within the file.
+-- `scanner::halted` meets its contract: a byte stands at a place within the file.
 use Rattle.laws.specs.Tests.{tests}
-use Rattle.reader.proofs.halted.Statement.{statement}
-use Rattle.reader.proofs.halted.Tie as tie
+use Rattle.scanner.proofs.halted.Statement.{statement}
+use Rattle.scanner.proofs.halted.Tie as tie
 
 returns : tie.Need-returns
 returns c = search tests

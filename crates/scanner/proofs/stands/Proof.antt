@@ -1,10 +1,10 @@
--- `reader::stands` meets its contract: a place within the file has a byte, and no place past it has one.
+-- `scanner::stands` meets its contract: a place within the file has a byte, and no place past it has one.
 use mathlib.Core.Path.{sym}
 use borrow.Author.Needs.{needs}
 use Rattle.laws.specs.Tests.{never}
 use Rattle.file.proofs.FieldLaws.{starts-at, starts-past}
-use Rattle.reader.proofs.stands.Statement.{statement}
-use Rattle.reader.proofs.stands.Tie as tie
+use Rattle.scanner.proofs.stands.Statement.{statement}
+use Rattle.scanner.proofs.stands.Tie as tie
 
 returns : tie.Need-returns
 returns c = (sym (starts-at _ _ _ (c .before .if1 .taken)), λ _. c .before .if1 .taken)

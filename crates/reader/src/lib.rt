@@ -17,8 +17,8 @@ use file::Refusal;
 use file::Stretch;
 use file::classes;
 use file::fields_of;
-use file::text_close;
-use file::text_end;
+use quotes::text_close;
+use quotes::text_end;
 
 // The greatest length of a file.
 const LONGEST: usize = 16_777_215;

@@ -1,7 +1,7 @@
 // A record is cut as `walk::cut` cuts it, but for its last text, which is not read: it ends where the line does, and a line's end is looked for eight
 // bytes at a time. Last texts are the long ones.
-use file::text_end;
 use lines::line_after;
+use quotes::text_end;
 ghost use Prim.Native.Nat.{_<_};
 ghost use lib.ListN.{length};
 ghost use Rattle.file.specs.Reader.{Classes};

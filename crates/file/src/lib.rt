@@ -2,13 +2,9 @@
 // with which no legal file goes on. Nothing is undoubled, nothing is guessed.
 
 mod table;
-mod text;
 
 pub use table::classes;
 pub use table::fields_of;
-pub use text::permitted;
-pub use text::text_close;
-pub use text::text_end;
 
 // What reading a file of records comes to.
 pub enum Outcome {

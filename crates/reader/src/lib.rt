@@ -11,7 +11,7 @@ use file::Refusal;
 use file::Stretch;
 use file::classes;
 use file::fields_of;
-use file::text_end;
+use quotes::text_end;
 use scanner::read;
 
 // The greatest length of a file.

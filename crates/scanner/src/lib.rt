@@ -12,7 +12,7 @@ ghost use Rattle.file.specs.Reading.{reading};
 use file::Ahead;
 use file::Outcome;
 use file::classes;
-use file::text_close;
+use quotes::text_close;
 
 // inner: whether the byte b stands at this place.
 pub fn stands(s: &[u8], at: usize, b: u8) -> bool

@@ -11,8 +11,8 @@ ghost use Rattle.sweep.specs.Sweep.{digitRun, TextTo, FieldTo, follower,
 use field::Kind;
 use field::admits_text;
 use file::classes;
-use file::text_end;
 use kinds::kind_of;
+use quotes::text_end;
 use rules::meets_rules;
 use scanner::stands;
 

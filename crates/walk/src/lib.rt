@@ -4,7 +4,7 @@ ghost use Prim.Native.Nat.{_<_};
 ghost use lib.ListN.{length};
 ghost use Rattle.file.specs.Reader.{Classes};
 ghost use Rattle.walk.specs.Walk.{RecordAt, Cuts, Stands, partOf};
-use file::text_end;
+use quotes::text_end;
 
 // What a search among a file's records finds.
 pub enum Found {

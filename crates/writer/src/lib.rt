@@ -12,7 +12,7 @@ use file::Refusal;
 use file::Written;
 use file::classes;
 use file::fields_of;
-use file::permitted;
+use quotes::permitted;
 
 // Lays t over d from `at` on: the one loop that touches the buffer.
 fn copy(d: &mut [u8], at: usize, t: &[u8])

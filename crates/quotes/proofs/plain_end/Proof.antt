@@ -1,14 +1,14 @@
--- `file::text::plain_end` meets its contract. The loop's invariant: the plain bytes from `at` on end where those from `i` on end.
+-- `quotes::plain_end` meets its contract. The loop's invariant: the plain bytes from `at` on end where those from `i` on end.
 use mathlib.Core.Path.{_≡_, sym, _∙_}
 use Prim.Native.Nat.{_+_, _-_, _≤_, _<_}
 use native.Mathlib.Omega.{arith}
 use borrow.Author.Needs.{needs}
 use lib.ListN.{length, getD, drop}
 use denote.Ref.{now}
 use Rattle.file.specs.Bytes.{plainRun}
 use Rattle.file.proofs.TextLaws.{run-plain, run-stops, run-end, class-plain, class-other}
-use Rattle.file.proofs.text.plain_end.Statement.{statement}
-use Rattle.file.proofs.text.plain_end.Tie as tie
+use Rattle.quotes.proofs.plain_end.Statement.{statement}
+use Rattle.quotes.proofs.plain_end.Tie as tie
 
 abbrev Inv-loop : tie.InvT-loop
 Inv-loop s at class i₀ i = (i ≤ length s) × (i + plainRun (drop i s) ≡ at + plainRun (drop at s))

@@ -1,4 +1,4 @@
--- `file::text::permitted` meets its contract: a permitted text is one that goes on to its end.
+-- `quotes::permitted` meets its contract: a permitted text is one that goes on to its end.
 use mathlib.Core.Path.{_≡_, sym, ap, _∙_}
 use Prim.Native.Nat.{ℕ}
 use borrow.Author.Needs.{needs}
@@ -6,10 +6,10 @@ use native.Mathlib.Omega.{arith}
 use lib.Dec.{eqb}
 use lib.ListN.{length}
 use denote.Ref.{now}
 use Rattle.file.specs.Bytes.{goes}
 use Rattle.file.proofs.TextLaws.{permitted-goes}
-use Rattle.file.proofs.text.permitted.Statement.{statement}
-use Rattle.file.proofs.text.permitted.Tie as tie
+use Rattle.quotes.proofs.permitted.Statement.{statement}
+use Rattle.quotes.proofs.permitted.Tie as tie
 
 returns : tie.Need-returns
 returns c =

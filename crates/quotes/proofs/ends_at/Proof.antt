@@ -1,11 +1,11 @@
--- `file::text::ends_at` meets its contract: what ends a field is seen from the byte and the next.
+-- `quotes::ends_at` meets its contract: what ends a field is seen from the byte and the next.
 use mathlib.Core.Path.{sym, _∙_}
 use borrow.Author.Needs.{needs}
 use borrow.Author.Tests.{eq-eqb, ne-eqb}
 use denote.Ref.{now}
 use Rattle.file.proofs.TextLaws.{ends-no-quote, ends-no-next, ends-next}
-use Rattle.file.proofs.text.ends_at.Statement.{statement}
-use Rattle.file.proofs.text.ends_at.Tie as tie
+use Rattle.quotes.proofs.ends_at.Statement.{statement}
+use Rattle.quotes.proofs.ends_at.Tie as tie
 
 returns : tie.Need-returns
 returns c = sym (ends-no-quote _ _ (c .before .before .pre) (c .if1 .taken))

@@ -1,4 +1,4 @@
--- `file::text::text_close` meets its contract. The loop's invariant: the text from `at` on stops where the text from `i` on stops, and no
+-- `quotes::text_close` meets its contract. The loop's invariant: the text from `at` on stops where the text from `i` on stops, and no
 -- plain byte stands at `i`.
 use mathlib.Core.Path.{_≡_, sym, _∙_}
 use Prim.Native.Nat.{_+_, _-_, _<_}
@@ -6,9 +6,9 @@ use native.Mathlib.Omega.{arith}
 use borrow.Author.Needs.{needs}
 use lib.ListN.{length}
 use denote.Ref.{now}
 use Rattle.file.proofs.TextLaws.{TextFrom, from-skip, from-end, from-unfit, from-ends, from-quote, closes-unfit, closes-ends, ends-no-quote, ends-within, ends-past}
-use Rattle.file.proofs.text.text_close.Statement.{statement}
-use Rattle.file.proofs.text.text_close.Tie as tie
+use Rattle.quotes.proofs.text_close.Statement.{statement}
+use Rattle.quotes.proofs.text_close.Tie as tie
 
 abbrev Inv-loop : tie.InvT-loop
 Inv-loop s at class i₀ i = TextFrom s at i

@@ -16,7 +16,8 @@ use Rattle.field.specs.Stage.{firstUnkind}
 use Rattle.field.specs.declared.Kind.{Kind}
 use Rattle.walk.specs.Walk.{partOf}
 use Rattle.walk.proofs.WalkLaws.{cut-size, cut-text}
-use Rattle.rules.specs.Texts.{texts, Kinded, DateOrNone}
+use Rattle.dated.specs.Dates.{DateOrNone}
+use Rattle.rules.specs.Texts.{texts, Kinded}
 
 -- where no text is of another kind, the first is of its own, and none of the others is of another
 of-first : (file f : ℕ) (t : Text) (ts : Fields) → 1 ≤ f → firstUnkind file f (t ∷ ts) ≡ 0

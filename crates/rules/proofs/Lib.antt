@@ -1,3 +1,2 @@
 pub mod KindLaws
 pub mod RuleLaws
-pub mod DateLaws

@@ -1,7 +1,13 @@
 // Document 01, "Rules inside one record (refusal 6)": whether a record that was cut, all of whose fields are of their kinds, meets the
 // rules of its file. Fields count from 1, and texts from 0: field 7 is text 6.
-mod texts;
-
+use dated::closes_in_order;
+use dated::dates_fit;
+use dated::in_order;
+use dated::mark_fits;
+use stated::district_given;
+use stated::kilometres_fit;
+use stated::name_given;
+use stated::times_fit;
 use walk::part;
 ghost use mathlib.Core.Path.{_≡_};
 ghost use Rattle.field.specs.Names.{stopsFile, firmsFile, linesFile, tripStopsFile, timeCodesFile, alternativesFile, firstCarrierCode, carrierCodes};
@@ -13,7 +19,7 @@ fn stop_rule(s: &[u8], places: &[usize; 14]) -> bool
     requires { ⌜ Kinded stopsFile (now s) (now places) ⌝ }
     ensures { λ r. ⌜ r ≡ stopRule (texts stopsFile (now (s .entry)) (now (places .entry))) ⌝ }
 {
-    texts::district_given(part(s, places, 4), part(s, places, 5))
+    district_given(part(s, places, 4), part(s, places, 5))
 }
 
 // Dopravci: the firm's kind and the person's name.
@@ -21,7 +27,7 @@ fn firm_rule(s: &[u8], places: &[usize; 14]) -> bool
     requires { ⌜ Kinded firmsFile (now s) (now places) ⌝ }
     ensures { λ r. ⌜ r ≡ firmRule (texts firmsFile (now (s .entry)) (now (places .entry))) ⌝ }
 {
-    texts::name_given(part(s, places, 3), part(s, places, 4))
+    name_given(part(s, places, 3), part(s, places, 4))
 }
 
 // Linky: the licence's dates, and the timetable's.
@@ -29,10 +35,10 @@ fn line_rule(s: &[u8], places: &[usize; 14]) -> bool
     requires { ⌜ Kinded linesFile (now s) (now places) ⌝ }
     ensures { λ r. ⌜ r ≡ lineRule (texts linesFile (now (s .entry)) (now (places .entry))) ⌝ }
 {
-    if !texts::in_order(part(s, places, 6), part(s, places, 7)) {
+    if !in_order(part(s, places, 6), part(s, places, 7)) {
         return false;
     }
-    texts::in_order(part(s, places, 8), part(s, places, 9))
+    in_order(part(s, places, 8), part(s, places, 9))
 }
 
 // Zasspoje: kilometres, arrival and departure.
@@ -42,10 +48,10 @@ fn trip_stop_rule(s: &[u8], places: &[usize; 14]) -> bool
 {
     let arrival = part(s, places, 8);
     let departure = part(s, places, 9);
-    if !texts::times_fit(arrival, departure) {
+    if !times_fit(arrival, departure) {
         return false;
     }
-    texts::kilometres_fit(part(s, places, 7), arrival, departure)
+    kilometres_fit(part(s, places, 7), arrival, departure)
 }
 
 // Caskody: the mark, the type and the dates.
@@ -56,13 +62,13 @@ fn time_code_rule(s: &[u8], places: &[usize; 14]) -> bool
     let kind = part(s, places, 4);
     let from = part(s, places, 5);
     let to = part(s, places, 6);
-    if !texts::closes_in_order(from, to) {
+    if !closes_in_order(from, to) {
         return false;
     }
-    if !texts::mark_fits(kind, part(s, places, 3)) {
+    if !mark_fits(kind, part(s, places, 3)) {
         return false;
     }
-    texts::dates_fit(kind, from, to)
+    dates_fit(kind, from, to)
 }
 
 // Altdop: one of the six codes is given.
@@ -87,7 +93,7 @@ fn carrier_rule(s: &[u8], places: &[usize; 14]) -> bool
     ensures { λ r. ⌜ r ≡ carrierRule (texts alternativesFile (now (s .entry)) (now (places .entry))) ⌝ }
 {
     let from = part(s, places, 11);
-    if !texts::closes_in_order(from, part(s, places, 12)) {
+    if !closes_in_order(from, part(s, places, 12)) {
         return false;
     }
     if has_code(s, places) {

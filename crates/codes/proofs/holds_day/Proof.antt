@@ -7,7 +7,7 @@ use Rattle.signs.specs.Signs.{periodHolds}
 use Rattle.file.specs.Files.{fieldsOf, fieldCounts}
 use Rattle.field.specs.Kinds.{kindOf, kinds, caskody}
 use Rattle.rules.proofs.KindLaws.{text-at, maybe-date}
-use Rattle.rules.proofs.RuleLaws.{is-given}
+use Rattle.dated.proofs.RuleLaws.{is-given}
 use Rattle.trip.specs.Days.{holdsDay}
 use Rattle.codes.proofs.holds_day.Statement.{statement}
 use Rattle.codes.proofs.holds_day.Tie as tie

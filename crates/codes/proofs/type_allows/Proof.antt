@@ -1,7 +1,7 @@
 -- `codes::type_allows` meets its contract: where there is none of the type nothing is asked.
 use borrow.Author.Needs.{needs}
 use Rattle.laws.specs.Tests.{tests}
-use Rattle.rules.proofs.RuleLaws.{fails, holds}
+use Rattle.dated.proofs.RuleLaws.{fails, holds}
 use Rattle.codes.proofs.type_allows.Statement.{statement}
 use Rattle.codes.proofs.type_allows.Tie as tie
 

@@ -1,7 +1,7 @@
 -- `codes::weeks_allow` meets its contract: type after type, the first that doesn't allow the day ends it.
 use mathlib.Core.Path.{refl, _∙_}
 use borrow.Author.Needs.{needs}
-use Rattle.rules.proofs.RuleLaws.{fails, holds}
+use Rattle.dated.proofs.RuleLaws.{fails, holds}
 use Rattle.trip.specs.Days.{weeksAllow, weekAllowsIn}
 use Rattle.codes.proofs.LeafLaws.{week-alone, asks-period}
 use Rattle.codes.proofs.weeks_allow.Statement.{statement}

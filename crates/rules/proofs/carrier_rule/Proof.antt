@@ -7,7 +7,7 @@ use Rattle.file.specs.Files.{fieldsOf, fieldCounts}
 use Rattle.field.specs.Kinds.{kindOf, kinds, altdop}
 use Rattle.field.specs.Rules.{carrierRule}
 use Rattle.rules.proofs.KindLaws.{text-at, maybe-date}
-use Rattle.rules.proofs.RuleLaws.{fails, holds}
+use Rattle.dated.proofs.RuleLaws.{fails, holds}
 use Rattle.rules.proofs.carrier_rule.Statement.{statement}
 use Rattle.rules.proofs.carrier_rule.Tie as tie
 

@@ -5,7 +5,7 @@ use Rattle.file.specs.Files.{fieldsOf, fieldCounts}
 use Rattle.field.specs.Kinds.{kindOf, kinds, linky}
 use Rattle.field.specs.Rules.{lineRule}
 use Rattle.rules.proofs.KindLaws.{text-at, maybe-date, sure-date}
-use Rattle.rules.proofs.RuleLaws.{fails, holds}
+use Rattle.dated.proofs.RuleLaws.{fails, holds}
 use Rattle.rules.proofs.line_rule.Statement.{statement}
 use Rattle.rules.proofs.line_rule.Tie as tie
 

@@ -6,7 +6,7 @@ use Rattle.file.specs.Files.{fieldsOf, fieldCounts}
 use Rattle.field.specs.Kinds.{kindOf, kinds, caskody}
 use Rattle.field.specs.Rules.{timeCodeRule, markRule}
 use Rattle.rules.proofs.KindLaws.{text-at, maybe-date}
-use Rattle.rules.proofs.RuleLaws.{fails, holds}
+use Rattle.dated.proofs.RuleLaws.{fails, holds}
 use Rattle.rules.proofs.time_code_rule.Statement.{statement}
 use Rattle.rules.proofs.time_code_rule.Tie as tie
 

@@ -4,7 +4,7 @@ use borrow.Author.Needs.{needs}
 use Rattle.file.specs.Files.{fieldsOf, fieldCounts}
 use Rattle.field.specs.Rules.{tripStopRule}
 use Rattle.rules.proofs.KindLaws.{text-at}
-use Rattle.rules.proofs.RuleLaws.{fails, holds}
+use Rattle.dated.proofs.RuleLaws.{fails, holds}
 use Rattle.rules.proofs.trip_stop_rule.Statement.{statement}
 use Rattle.rules.proofs.trip_stop_rule.Tie as tie
 

@@ -17,24 +17,34 @@ ghost use Rattle.coded.specs.Ready.{Ready};
 ghost use Rattle.trip.specs.Stops.{stopsFit};
 ghost use Rattle.calling.specs.Calling.{travelled, firstPlace};
 
-// What is wrong with a trip's stops, if anything, and where the one that stands last in the file does: the next trip's are expected behind it.
+// What is wrong with a trip's stops, if anything, and where the one that stands last in the file does, with the last entry of an index that
+// was looked at: the next trip's are expected behind it.
 pub struct Stops {
     pub fit: bool,
     pub last: usize,
+    pub entry: usize,
 }
 
 // inner: where the walk in travel order begins
-pub fn first_of(f8: &[u8], order: &[u32], ways: &[usize], last: usize, line: u64, trip: u64) -> Step
+pub fn first_of(
+    f8: &[u8],
+    order: &[u32],
+    ways: &[usize],
+    last: usize,
+    entry: usize,
+    line: u64,
+    trip: u64,
+) -> Step
     requires { ⌜ Ready tripStopsFile (now f8) (now order) (now ways) × PlaceIn tripStopsFile (now f8) last × (line < none) × (trip < none) ⌝ }
     ensures { λ r. ⌜ r .at ≡ firstPlace (now (f8 .entry)) line trip ⌝ }
 {
     if trip % 2 == 1 {
-        return first_step(8, f8, order, ways, last, true, line, trip);
+        return first_step(8, f8, order, ways, last, entry, true, line, trip);
     }
-    first_step(8, f8, order, ways, last, false, line, trip)
+    first_step(8, f8, order, ways, last, entry, false, line, trip)
 }
 
-// The later of two places.
+// The later of two places, or of two entries.
 fn later(a: usize, b: usize) -> usize
     ensures { λ r. ⌜ r ≡ pick (leb a b) b a ⌝ }
 {
@@ -50,6 +60,7 @@ pub fn stops_fit(
     order: &[u32],
     ways: &[usize],
     last: usize,
+    entry: usize,
     line: u64,
     trip: u64,
     class: &[u8; 256],
@@ -62,7 +73,8 @@ pub fn stops_fit(
     let mut c = course::set_out();
     let mut time: u64 = 0;
     let mut length: u64 = 0;
-    let mut step = first_of(f8, order, ways, last, line, trip);
+    let mut step = first_of(f8, order, ways, last, entry, line, trip);
+    let begun = step.entry;
     let mut near = step.at;
     while step.at < f8.len() {
         let next = cut(f8, step.at, 10, class, &mut places);
@@ -76,5 +88,6 @@ pub fn stops_fit(
     Stops {
         fit: course::course_ends(c, time, length),
         last: near,
+        entry: later(begun, step.entry),
     }
 }

@@ -89,17 +89,25 @@ pub fn next_entry(
     entry_below(file, s, part, entry, line, trip)
 }
 
-// inner: the entry where a walk begins
-pub fn first_entry(file: u64, s: &[u8], part: &[u32], up: bool, line: u64, trip: u64) -> Step
+// inner: the entry where a walk begins; `near` is the entry to look at first, any number
+pub fn first_entry(
+    file: u64,
+    s: &[u8],
+    part: &[u32],
+    near: usize,
+    up: bool,
+    line: u64,
+    trip: u64,
+) -> Step
     requires { ⌜ KeyFile file (now s) × (length (keyFields file) ≡ 3) × IsIndex file (now s) (now part) × NoneUsed file (now s) × (line < none) × (trip < none) ⌝ }
     ensures { λ r. ⌜ r .at ≡ placeOf (now (s .entry)) (stepOf file up line trip (begin up) (recordsIn (fieldsOf file) (now (s .entry)))) ⌝ }
 {
     let hi = line * 1000000000 + trip;
     if up {
-        let i = lower(file, s, part, Key { hi: hi, lo: 0 }, part.len());
+        let i = lower(file, s, part, Key { hi: hi, lo: 0 }, near);
         return entry_from(file, s, part, i, line, trip);
     }
-    let i = lower(file, s, part, Key { hi: hi + 1, lo: 0 }, part.len());
+    let i = lower(file, s, part, Key { hi: hi + 1, lo: 0 }, near);
     entry_below(file, s, part, i, line, trip)
 }
 

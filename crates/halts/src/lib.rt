@@ -35,7 +35,7 @@ pub fn count_stops(
     let up = trip % 2 == 1;
     let mut places: [usize; 14] = [0; 14];
     let mut n: u64 = 0;
-    let mut step = first_of(f8, order, ways, 0, line, trip);
+    let mut step = first_of(f8, order, ways, 0, 0, line, trip);
     while step.at < f8.len() {
         let next = cut(f8, step.at, 10, class, &mut places);
         n += 1;
@@ -60,7 +60,7 @@ pub fn nth_stop(
     let up = trip % 2 == 1;
     let mut places: [usize; 14] = [0; 14];
     let mut i: u64 = 0;
-    let mut step = first_of(f8, order, ways, 0, line, trip);
+    let mut step = first_of(f8, order, ways, 0, 0, line, trip);
     while step.at < f8.len() {
         if i == n {
             return step.at;

@@ -131,6 +131,34 @@ fn lower_within(file: u64, s: &[u8], order: &[u32], x: Key, from: usize, end: us
     lo
 }
 
+// The same where it is no entry before `from`, and most often one of the next: a trip has few stops.
+fn lower_beyond(file: u64, s: &[u8], order: &[u32], x: Key, from: usize) -> usize
+    requires { ⌜ KeyFile file (now s) × IsIndex file (now s) (now order) × (x .lo < none) × Between file (now s) (now order) (rankKey x) from (length (now order)) ⌝ }
+    ensures { λ r. ⌜ Lower file (now (s .entry)) (now (order .entry)) (rankKey x) r ⌝ }
+{
+    if order.len() - from <= 64 {
+        return lower_within(file, s, order, x, from, order.len());
+    }
+    if is_below(file, s, order, x, from + 64) {
+        return lower_within(file, s, order, x, from + 65, order.len());
+    }
+    lower_within(file, s, order, x, from, from + 64)
+}
+
+// The same where it is no entry behind `end`, and most often one of those before.
+fn lower_before(file: u64, s: &[u8], order: &[u32], x: Key, end: usize) -> usize
+    requires { ⌜ KeyFile file (now s) × IsIndex file (now s) (now order) × (x .lo < none) × Between file (now s) (now order) (rankKey x) 0 end ⌝ }
+    ensures { λ r. ⌜ Lower file (now (s .entry)) (now (order .entry)) (rankKey x) r ⌝ }
+{
+    if end <= 64 {
+        return lower_within(file, s, order, x, 0, end);
+    }
+    if is_below(file, s, order, x, end - 64) {
+        return lower_within(file, s, order, x, end - 63, end);
+    }
+    lower_within(file, s, order, x, 0, end - 64)
+}
+
 // The same where it is no entry before `from`: that one is tried first.
 fn lower_from(file: u64, s: &[u8], order: &[u32], x: Key, from: usize) -> usize
     requires { ⌜ KeyFile file (now s) × IsIndex file (now s) (now order) × (x .lo < none) × Between file (now s) (now order) (rankKey x) from (length (now order)) ⌝ }
@@ -140,7 +168,7 @@ fn lower_from(file: u64, s: &[u8], order: &[u32], x: Key, from: usize) -> usize
         return from;
     }
     if is_below(file, s, order, x, from) {
-        return lower_within(file, s, order, x, from + 1, order.len());
+        return lower_beyond(file, s, order, x, from + 1);
     }
     from
 }
@@ -156,7 +184,7 @@ fn lower_till(file: u64, s: &[u8], order: &[u32], x: Key, end: usize) -> usize
     if is_below(file, s, order, x, end - 1) {
         return end;
     }
-    lower_within(file, s, order, x, 0, end - 1)
+    lower_before(file, s, order, x, end - 1)
 }
 
 // inner: the first entry of an index whose key isn't below x, or how many entries there are. Walks ask for the entry at or beside the one

@@ -31,10 +31,11 @@ struct Marks {
     differ: bool,
 }
 
-// What is wrong with a trip's days, if anything, and where the last of its time codes stands.
+// What is wrong with a trip's days, if anything, and where the last of its time codes stands, with the last entry of an index that was looked at.
 pub struct Days {
     pub fit: bool,
     pub last: usize,
+    pub entry: usize,
 }
 
 // Whether one of a trip's codes is a day sign.
@@ -89,6 +90,7 @@ fn types_of(
     order: &[u32],
     ways: &[usize],
     last: usize,
+    entry: usize,
     line: u64,
     trip: u64,
     class: &[u8; 256],
@@ -103,7 +105,7 @@ fn types_of(
         differ: false,
     };
     let mut near = last;
-    let mut step = first_step(10, f10, order, ways, last, true, line, trip);
+    let mut step = first_step(10, f10, order, ways, last, entry, true, line, trip);
     while step.at < f10.len() {
         let next = cut(f10, step.at, 8, class, &mut places);
         let kind = codes::type_of(f10, &places);
@@ -115,6 +117,7 @@ fn types_of(
     Days {
         fit: m.differ,
         last: near,
+        entry: step.entry,
     }
 }
 
@@ -129,23 +132,26 @@ pub fn days_fit(
     order: &[u32],
     ways: &[usize],
     last: usize,
+    entry: usize,
     class: &[u8; 256],
 ) -> Days
     requires { ⌜ Kinded tripsFile (now f6) (now places) × (line < none) × (trip < none) × Ready codesFile (now f3) (now order) (now ways) × Ready timeCodesFile (now f10) (now order) (now ways) × PlaceIn timeCodesFile (now f10) last × Classes (now class) ⌝ }
     ensures { λ r. ⌜ (r .fit ≡ daysFit (signsFrom (λ c. signIn (recordsIn (fieldsOf codesFile) (now (f3 .entry))) c) 3 10 (texts tripsFile (now (f6 .entry)) (now (places .entry)))) (upward timeCodesFile line trip (recordsIn (fieldsOf timeCodesFile) (now (f10 .entry))))) × PlaceIn timeCodesFile (now (f10 .entry)) (r .last) ⌝ }
 {
     let mut seen: [u64; 9] = [0; 9];
-    let m = types_of(f10, order, ways, last, line, trip, class, &mut seen);
+    let m = types_of(f10, order, ways, last, entry, line, trip, class, &mut seen);
     if seen[3] == 0 {
         return Days {
             fit: codes::days_fit(&seen, m.fit, false),
             last: m.last,
+            entry: m.entry,
         };
     }
     let dated = has_day_sign(f6, places, f3, order, ways, class);
     Days {
         fit: codes::days_fit(&seen, m.fit, dated),
         last: m.last,
+        entry: m.entry,
     }
 }
 
@@ -176,7 +182,7 @@ fn held_on(
     ensures { λ _. ⌜ now (held .exit) ≡ heldBehind d (now (held .entry)) (upward timeCodesFile line trip (recordsIn (fieldsOf timeCodesFile) (now (f10 .entry)))) ⌝ }
 {
     let mut places: [usize; 14] = [0; 14];
-    let mut step = first_step(10, f10, order, ways, 0, true, line, trip);
+    let mut step = first_step(10, f10, order, ways, 0, 0, true, line, trip);
     while step.at < f10.len() {
         let next = cut(f10, step.at, 8, class, &mut places);
         hold_on(f10, &places, d, held);
@@ -228,7 +234,7 @@ pub fn allowed_on(
 {
     let mut seen: [u64; 9] = [0; 9];
     let mut held: [u64; 9] = [0; 9];
-    types_of(f10, order, ways, 0, line, trip, class, &mut seen);
+    types_of(f10, order, ways, 0, 0, line, trip, class, &mut seen);
     held_on(f10, order, ways, line, trip, d, class, &mut held);
     let allowed = signs_allow(f6, places, f3, order, ways, class, d, holidays);
     codes::codes_allow(&seen, &held, d, allowed)

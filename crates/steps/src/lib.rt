@@ -122,13 +122,14 @@ fn by_entry(
     }
 }
 
-// inner: where a trip's walk begins
+// inner: where a trip's walk begins. The walk before ended near the place `last` and the entry `near`, which may be any number
 pub fn first_step(
     file: u64,
     s: &[u8],
     order: &[u32],
     ways: &[usize],
     last: usize,
+    near: usize,
     up: bool,
     line: u64,
     trip: u64,
@@ -140,7 +141,7 @@ pub fn first_step(
     if ways[i] == 2 {
         let part = index_of(order, ways, file);
         if part.len() > 0 {
-            return first_entry(file, s, part, up, line, trip);
+            return first_entry(file, s, part, near, up, line, trip);
         }
     }
     if up {

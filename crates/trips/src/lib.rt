@@ -29,11 +29,14 @@ pub enum Timed {
     Stops(u64),
 }
 
-// What is wrong with a trip, 10, 11 or 0, and where its last time code and its last stop stand.
+// What is wrong with a trip, 10, 11 or 0, and where its last time code and its last stop stand, each with the entry of an index that was looked
+// at last: the next trip's are looked for there first.
 struct Tried {
     fault: u64,
     code: usize,
+    code_entry: usize,
     stop: usize,
+    stop_entry: usize,
 }
 
 // What is wrong with the trip whose record was cut.
@@ -46,7 +49,9 @@ fn trip_fault(
     order: &[u32],
     ways: &[usize],
     code: usize,
+    code_entry: usize,
     stop: usize,
+    stop_entry: usize,
     class: &[u8; 256],
 ) -> Tried
     requires { ⌜ Kinded tripsFile (now f6) (now places) × Ready codesFile (now f3) (now order) (now ways) × Ready tripStopsFile (now f8) (now order) (now ways) × Ready timeCodesFile (now f10) (now order) (now ways) × PlaceIn timeCodesFile (now f10) code × PlaceIn tripStopsFile (now f8) stop × Classes (now class) ⌝ }
@@ -54,20 +59,36 @@ fn trip_fault(
 {
     let line = value_of(part(f6, places, 0));
     let trip = value_of(part(f6, places, 1));
-    let d = days_fit(f6, places, line, trip, f3, f10, order, ways, code, class);
+    let d = days_fit(
+        f6,
+        places,
+        line,
+        trip,
+        f3,
+        f10,
+        order,
+        ways,
+        code,
+        code_entry,
+        class,
+    );
     if !d.fit {
         return Tried {
             fault: 10,
             code: d.last,
+            code_entry: d.entry,
             stop: stop,
+            stop_entry: stop_entry,
         };
     }
-    let s = stops_fit(f8, order, ways, stop, line, trip, class);
+    let s = stops_fit(f8, order, ways, stop, stop_entry, line, trip, class);
     let fault = if s.fit { 0 } else { 11 };
     Tried {
         fault: fault,
         code: d.last,
+        code_entry: d.entry,
         stop: s.last,
+        stop_entry: s.entry,
     }
 }
 
@@ -89,10 +110,25 @@ pub fn trips_fault(
     let mut k: u64 = 1;
     let mut at: usize = 0;
     let mut code: usize = 0;
+    let mut code_entry: usize = 0;
     let mut stop: usize = 0;
+    let mut stop_entry: usize = 0;
     while at < f6.len() {
         let next = cut(f6, at, 12, class, &mut places);
-        let t = trip_fault(f6, &places, f3, f8, f10, order, ways, code, stop, class);
+        let t = trip_fault(
+            f6,
+            &places,
+            f3,
+            f8,
+            f10,
+            order,
+            ways,
+            code,
+            code_entry,
+            stop,
+            stop_entry,
+            class,
+        );
         if t.fault == 10 {
             return Timed::Days(k);
         }
@@ -100,7 +136,9 @@ pub fn trips_fault(
             return Timed::Stops(k);
         }
         code = t.code;
+        code_entry = t.code_entry;
         stop = t.stop;
+        stop_entry = t.stop_entry;
         k += 1;
         at = next;
     }

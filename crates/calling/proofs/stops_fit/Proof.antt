@@ -12,11 +12,11 @@ use Rattle.calling.proofs.stops_fit.Statement.{statement}
 use Rattle.calling.proofs.stops_fit.Tie as tie
 
 abbrev Inv-loop : tie.InvT-loop
-Inv-loop f8 order ways last line trip class up places₀ c₀ time₀ length₀ step₀ near₀ places c time length step near =
+Inv-loop f8 order ways last entry line trip class up places₀ c₀ time₀ length₀ step₀ begun near₀ places c time length step near =
     Passing f8 line trip near (step .at) c time length
 
 abbrev μ-loop : tie.MeasureT-loop
-μ-loop f8 order ways last line trip class up places₀ c₀ time₀ length₀ step₀ near₀ places c time length step near =
+μ-loop f8 order ways last entry line trip class up places₀ c₀ time₀ length₀ step₀ begun near₀ places c time length step near =
     list.length (leftAt 8 f8 (goesUp trip) line trip (step .at))
 
 loop-holds : tie.Need-loop-holds Inv-loop μ-loop
@@ -85,11 +85,12 @@ loop-again c =
 
 returns : tie.Need-returns Inv-loop μ-loop
 returns c =
-    let l = c .before .before .before in
+    let ends = c .before in
+    let l = ends .before .before .before in
     let w = l .loop in
     let a = start l .args in
     let p = start l .pre in
-    (passing-end (now (a .f8)) (now (a .order)) (now (a .ways)) (p .0) (a .line) (a .trip) (p .2) (p .3) (w .near) (w .step .at) (w .c) (w .time) (w .length) (w .inv) (c .before .if1 .left) _ (c .course-ends .ensures), w .inv .last)
+    (passing-end (now (a .f8)) (now (a .order)) (now (a .ways)) (p .0) (a .line) (a .trip) (p .2) (p .3) (w .near) (w .step .at) (w .c) (w .time) (w .length) (w .inv) (ends .before .if1 .left) _ (ends .course-ends .ensures), w .inv .last)
 
 pub stops-fit-spec : {M : Type 1} → statement M
 stops-fit-spec =
@@ -110,4 +111,5 @@ stops-fit-spec =
     loop-less
     loop-again
     (λ c κs. search needs)  -- course-ends-requires
+    (λ c κs. search needs)  -- later-requires-2
     returns)

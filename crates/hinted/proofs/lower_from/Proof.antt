@@ -8,8 +8,8 @@ use Rattle.hinted.proofs.HintedLaws.{between-up, between-down, between-
 use Rattle.hinted.proofs.lower_from.Statement.{statement}
 use Rattle.hinted.proofs.lower_from.Tie as tie
 
-lower-within-requires : tie.Need-lower-within-requires
-lower-within-requires c κs =
+lower-beyond-requires : tie.Need-lower-beyond-requires
+lower-beyond-requires c κs =
     let b = c .before .before .before .before .before in
     let a = b .args in
     let o = now (a .order) in
@@ -30,7 +30,7 @@ lower-from-spec =
     (tie.spec
     (λ c. search needs)  -- returns
     (λ c κs. search needs)  -- is-below-requires
-    (λ c. search needs)  -- add-lower-within
-    lower-within-requires
+    (λ c. search needs)  -- add-lower-beyond
+    lower-beyond-requires
     (λ c. search needs)  -- returns-2
     returns-3)

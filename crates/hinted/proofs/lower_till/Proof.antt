@@ -25,8 +25,8 @@ returns-2 c =
     let e : a .end - 1 + 1 ≡ a .end = omega arith in
     between-met (a .file) s o (rankKey (a .x)) (a .end) (a .end) (rw e at w) (omega arith)
 
-lower-within-requires : tie.Need-lower-within-requires
-lower-within-requires c κs =
+lower-before-requires : tie.Need-lower-before-requires
+lower-before-requires c κs =
     let b = c .before .before .before .before .before in
     let a = b .args in
     (b .pre .0, b .pre .1, b .pre .2, between-down (a .file) (now (a .s)) (now (a .order)) (rankKey (a .x)) 0 (a .end) (a .end - 1) (b .pre .3) (omega arith) (omega arith) (c .before .is-below .ensures) (c .if2 .left))
@@ -39,6 +39,6 @@ lower-till-spec =
     (λ c. search needs)  -- sub-is-below
     (λ c κs. search needs)  -- is-below-requires
     returns-2
-    (λ c. search needs)  -- sub-lower-within
-    lower-within-requires
+    (λ c. search needs)  -- sub-lower-before
+    lower-before-requires
     (λ c. search needs))  -- returns-3

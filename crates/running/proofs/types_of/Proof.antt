@@ -7,11 +7,11 @@ use Rattle.running.proofs.types_of.Statement.{statement}
 use Rattle.running.proofs.types_of.Tie as tie
 
 abbrev Inv-loop : tie.InvT-loop
-Inv-loop f10 order ways last line trip class seen₀ places₀ m₀ near₀ step₀ seen places m near step =
+Inv-loop f10 order ways last entry line trip class seen₀ places₀ m₀ near₀ step₀ seen places m near step =
     Typing f10 line trip seen₀ seen (m .first) (m .differ) near (step .at)
 
 abbrev μ-loop : tie.MeasureT-loop
-μ-loop f10 order ways last line trip class seen₀ places₀ m₀ near₀ step₀ seen places m near step = length (leftAt f10 line trip (step .at))
+μ-loop f10 order ways last entry line trip class seen₀ places₀ m₀ near₀ step₀ seen places m near step = length (leftAt f10 line trip (step .at))
 
 -- how the function began
 module _ (l : tie.At-loop Inv-loop μ-loop) where

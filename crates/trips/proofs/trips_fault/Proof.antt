@@ -17,11 +17,11 @@ use Rattle.trips.proofs.trips_fault.Statement.{statement}
 use Rattle.trips.proofs.trips_fault.Tie as tie
 
 abbrev Inv-loop : tie.InvT-loop
-Inv-loop f3 f6 f8 f10 order ways class places₀ k₀ at₀ code₀ stop₀ places k at code stop =
+Inv-loop f3 f6 f8 f10 order ways class places₀ k₀ at₀ code₀ codeEntry₀ stop₀ stopEntry₀ places k at code codeEntry stop stopEntry =
     Left (recordsIn (fieldsOf 3) f3) (recordsIn (fieldsOf 8) f8) (recordsIn (fieldsOf 10) f10) f6 at k × PlaceIn 10 f10 code × PlaceIn 8 f8 stop
 
 abbrev μ-loop : tie.MeasureT-loop
-μ-loop f3 f6 f8 f10 order ways class places₀ k₀ at₀ code₀ stop₀ places k at code stop = length f6 - at
+μ-loop f3 f6 f8 f10 order ways class places₀ k₀ at₀ code₀ codeEntry₀ stop₀ stopEntry₀ places k at code codeEntry stop stopEntry = length f6 - at
 
 loop-holds : tie.Need-loop-holds Inv-loop μ-loop
 loop-holds c =

@@ -1,4 +1,5 @@
 pub mod PlainLaws
 pub mod ReadyLaws
 pub mod FaultLaws
+pub mod IndexedLaws
 pub mod RunsLaws

@@ -3,10 +3,14 @@ pub mod runs; // runs.rt: whether a trip runs on a day
 
 use calling::stops_fit;
 use field::value_of;
+use lookup::index_of;
 use running::days_fit;
 use walk::cut;
 use walk::part;
 ghost use mathlib.Core.Path.{_≡_};
+ghost use mathlib.Core.Bool.{true};
+ghost use mathlib.Core.List.{[]};
+ghost use Rattle.laws.specs.Numbered.{answered};
 ghost use Rattle.file.specs.Files.{fieldsOf};
 ghost use Rattle.file.specs.Reader.{Classes};
 ghost use Rattle.file.specs.Records.{recordsIn};
@@ -92,9 +96,8 @@ fn trip_fault(
     }
 }
 
-// inner: the first trip whose days or stops are wrong, 10 before 11 trip by trip. Of the batch's files, Pevnykod, Spoje, Zasspoje and Caskody are
-// asked for.
-pub fn trips_fault(
+// The same trip by trip, in the order of the records of Spoje.
+fn first_timed(
     f3: &[u8],
     f6: &[u8],
     f8: &[u8],
@@ -143,4 +146,75 @@ pub fn trips_fault(
         at = next;
     }
     Timed::Sound
+}
+
+// Whether nothing is wrong with any trip, gone through in the order of the index of Spoje, where a trip's stops and time codes stand beside those of
+// the trip before; false too where there is no index.
+fn all_timed(
+    f3: &[u8],
+    f6: &[u8],
+    f8: &[u8],
+    f10: &[u8],
+    order: &[u32],
+    ways: &[usize],
+    class: &[u8; 256],
+) -> bool
+    requires { ⌜ Ready codesFile (now f3) (now order) (now ways) × Ready tripsFile (now f6) (now order) (now ways) × Ready tripStopsFile (now f8) (now order) (now ways) × Ready timeCodesFile (now f10) (now order) (now ways) × Classes (now class) ⌝ }
+    ensures { λ r. ⌜ (r ≡ true → plainFrom (recordsIn (fieldsOf codesFile) (now (f3 .entry))) (recordsIn (fieldsOf tripStopsFile) (now (f8 .entry))) (recordsIn (fieldsOf timeCodesFile) (now (f10 .entry))) 1 (recordsIn (fieldsOf tripsFile) (now (f6 .entry))) ≡ answered []) ⌝ }
+{
+    let part = index_of(order, ways, 6);
+    if part.len() == 0 {
+        return false;
+    }
+    let mut places: [usize; 14] = [0; 14];
+    let mut i = 0;
+    let mut tried = Tried {
+        fault: 0,
+        code: 0,
+        code_entry: 0,
+        stop: 0,
+        stop_entry: 0,
+    };
+    while i < part.len() {
+        cut(f6, part[i] as usize, 12, class, &mut places);
+        tried = trip_fault(
+            f6,
+            &places,
+            f3,
+            f8,
+            f10,
+            order,
+            ways,
+            tried.code,
+            tried.code_entry,
+            tried.stop,
+            tried.stop_entry,
+            class,
+        );
+        if tried.fault != 0 {
+            return false;
+        }
+        i += 1;
+    }
+    true
+}
+
+// inner: the first trip whose days or stops are wrong, 10 before 11 trip by trip. Of the batch's files, Pevnykod, Spoje, Zasspoje and Caskody are
+// asked for.
+pub fn trips_fault(
+    f3: &[u8],
+    f6: &[u8],
+    f8: &[u8],
+    f10: &[u8],
+    order: &[u32],
+    ways: &[usize],
+    class: &[u8; 256],
+) -> Timed
+    requires { ⌜ Ready codesFile (now f3) (now order) (now ways) × Ready tripsFile (now f6) (now order) (now ways) × Ready tripStopsFile (now f8) (now order) (now ways) × Ready timeCodesFile (now f10) (now order) (now ways) × Classes (now class) ⌝ }
+    ensures { λ r. ⌜ numberedTimed r ≡ plainFrom (recordsIn (fieldsOf codesFile) (now (f3 .entry))) (recordsIn (fieldsOf tripStopsFile) (now (f8 .entry))) (recordsIn (fieldsOf timeCodesFile) (now (f10 .entry))) 1 (recordsIn (fieldsOf tripsFile) (now (f6 .entry))) ⌝ }
+{
+    if all_timed(f3, f6, f8, f10, order, ways, class) {
+        return Timed::Sound;
+    }
+    first_timed(f3, f6, f8, f10, order, ways, class)
 }

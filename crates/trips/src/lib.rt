@@ -96,7 +96,7 @@ fn trip_fault(
     }
 }
 
-// The same trip by trip, in the order of the records of Spoje.
+// The first trip whose days or stops are wrong, gone through in the order of the records of Spoje.
 fn first_timed(
     f3: &[u8],
     f6: &[u8],

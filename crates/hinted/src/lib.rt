@@ -1,9 +1,10 @@
 // Files in any order, with a list that the caller lends: the places where the records start, in the order of their keys. The list is a hint:
 // it may hold anything, it is looked at once, and no answer depends on it. All of it is inner.
+use file::fields_of;
 use keys::Key;
 use keys::key_at;
 use keys::less;
-use lines::line_after;
+use lines::record_after;
 ghost use mathlib.Core.Path.{_≡_};
 ghost use mathlib.Core.Bool.{true};
 ghost use Prim.Native.Nat.{_≤_, _<_, _^_};
@@ -22,10 +23,11 @@ pub fn count(file: u64, s: &[u8]) -> usize
     requires { ⌜ KeyFile file (now s) ⌝ }
     ensures { λ r. ⌜ r ≡ length (recordsIn (fieldsOf file) (now (s .entry))) ⌝ }
 {
+    let fields = fields_of(file);
     let mut n = 0;
     let mut at = 0;
     while at < s.len() {
-        at = line_after(s, at);
+        at = record_after(s, at, fields);
         n += 1;
     }
     n

@@ -1,5 +1,5 @@
 -- A record's fields one after another: where nothing is wrong with any that has a link, nothing is wrong with the record.
-use mathlib.Core.Path.{_≡_, refl, sym}
+use mathlib.Core.Path.{_≡_, refl, sym, _∙_}
 use mathlib.Core.Bool.{Bool, true}
 use mathlib.Core.List.{List, _∷_}
 use Prim.Native.Nat.{ℕ, zero, suc, _+_, _-_, _≤_, _<_}
@@ -22,6 +22,7 @@ use Rattle.link.specs.Stage.{amiss, firstAmiss, fieldAmiss}
 use Rattle.link.proofs.MatchLaws.{free-behind, links-few}
 use Rattle.amiss.proofs.AmissLaws.{free-amiss}
 use Rattle.thirteen.specs.Batch.{Batch}
+use Rattle.recall.specs.Recall.{FreeBefore}
 
 -- The fields of a record from f on, of n in all.
 module _ (b : Batch) (file : ℕ) (r : Fields) (f n : ℕ) where
@@ -69,6 +70,24 @@ amiss-start b file s places n e =
     let z : n + 1 - 1 ≡ n = omega arith in
     let l : n + (length r - n) ≡ length r = omega (arith, cut-size (fieldsOf file) s places, links-few file) in
     rw (z, ← l) (sym (fewer-amiss b file r 1 n (length r - n) (omega arith)))
+
+-- and those that have none before the first that has one
+free-turns : (b : Batch) (file : ℕ) (r : Fields) (n k : ℕ) → FreeBefore file (k + 1) → k ≤ n
+    → firstAmiss b file r (k + 1) (n + 1 - (k + 1)) ≡ firstAmiss b file r 1 (n + 1 - 1)
+free-turns b file r n zero free h = refl
+free-turns b file r n (suc k) free h =
+    let z : suc k + 1 ≡ k + 1 + 1 = omega arith in
+    rw z
+    (sym (amiss-turn b file r (k + 1) n (omega arith) (sym (free-amiss b file (k + 1) r (free (k + 1) (omega arith)))))
+    ∙ free-turns b file r n k (λ (i : ℕ) l. free i (omega arith)) (omega arith))
+
+pub amiss-from : (b : Batch) (file : ℕ) (s places : List ℕ) (n f : ℕ) → n ≡ linksIn file → 1 ≤ f → f ≤ n + 1 → FreeBefore file f
+    → firstAmiss b file (texts file s places) f (n + 1 - f) ≡ fieldAmiss b file (texts file s places)
+amiss-from b file s places n f e low high free =
+    let z : f ≡ f - 1 + 1 = omega arith in
+    let g : FreeBefore file (f - 1 + 1) = λ (i : ℕ) l. free i (omega arith) in
+    let t : firstAmiss b file (texts file s places) f (n + 1 - f) ≡ firstAmiss b file (texts file s places) 1 (n + 1 - 1) = rw z (free-turns b file (texts file s places) n (f - 1) g (omega arith)) in
+    t ∙ amiss-start b file s places n e
 
 -- no file has more than thirteen fields in a record
 few : ℕ → Bool

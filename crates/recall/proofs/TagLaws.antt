@@ -5,13 +5,19 @@ use mathlib.Core.List.{List, [], _∷_}
 use Prim.Native.Nat.{ℕ, _+_, _*_, _≤_, _<_}
 use native.Mathlib.Omega.{arith}
 use lib.Dec.{eqb}
+use lib.ListN.{length}
 use borrow.Author.Tests.{eqb-true, eq-eqb, ne-eqb}
 use Rattle.laws.specs.Tests.{pick, both, either}
+use Rattle.file.specs.Files.{fieldsOf}
 use Rattle.file.specs.Format.{Fields}
 use Rattle.field.specs.Names.{field}
+use Rattle.field.specs.Stage.{firstUnkind}
 use Rattle.field.specs.Values.{isEmpty, given, value}
+use Rattle.field.proofs.ValueLaws.{digits-are}
 use Rattle.keys.specs.Keys.{numbers, has, none}
 use Rattle.link.specs.Links.{links, zasspoje, linkOf}
+use Rattle.link.specs.Numeric.{NumberAt}
+use Rattle.link.proofs.KindOfLinks.{number-kind, line-numeric, stop-numeric, carrier-numeric, trip-numeric, trip-or-zero-numeric, line-stop-numeric}
 use Rattle.link.specs.Signs.{signOf, isPermitted, codeFits, sameSign}
 use Rattle.link.specs.Stage.{amiss}
 use Rattle.link.specs.declared.Link.{Link}
@@ -161,9 +167,6 @@ module _ (file f : ℕ) (r : Fields) (t : ℕ) where
 
   -- a code
   module _ (e : Link.Code ≡ linkOf file f) where
-    pub empty-tagged : isEmpty (field f r) ≡ true → t ≡ 0 → Tagged file f r t
-    empty-tagged h z = nothing-tagged z (λ b. code-empty b file f r e h)
-
     pub code-tagged : file ≤ 13 → isEmpty (field f r) ≡ false → value (field f r) < none → ((b : Batch) → sameSign b file f r ≡ true) → t ≡ tag 3 file (value (field f r))
         → Tagged file f r t
     unfolding fine
@@ -208,3 +211,26 @@ module _ (r : Fields) (t : ℕ) (g : isEmpty (field 7 r) ≡ false) (v : value (
     is = z;
     means = λ b. rw h at (code-means b 8 7 r second-code g);
   }
+
+-- an empty field: a link by numbers has none, and a code that is empty links to nothing
+module _ (file f : ℕ) (r : Fields) (k : firstUnkind file 1 r ≡ 0) (n : length r ≡ fieldsOf file) (z : isEmpty (field f r) ≡ true) where
+  no-number : NumberAt file f → ⊥
+  no-number d =
+      let e = eqb-true (length (field f r)) 0 z in
+      omega (arith, digits-are 1 9 (field f r) (number-kind file r k n f d) .least)
+
+  empty-amiss : (b : Batch) → 0 ≡ amiss b file r f
+  empty-amiss b = go (linkOf file f) refl
+    where
+      go : (l : Link) → l ≡ linkOf file f → 0 ≡ amiss b file r f
+      go Link.Free e = free-amiss b file f r e
+      go Link.Line e = absurd (no-number (line-numeric file f (sym e)))
+      go Link.Stop e = absurd (no-number (stop-numeric file f (sym e)))
+      go Link.Carrier e = absurd (no-number (carrier-numeric file f (sym e)))
+      go Link.Trip e = let t = trip-numeric file f (sym e) in absurd (no-number (rw (t .0) (t .2)))
+      go Link.TripOrZero e = let t = trip-or-zero-numeric file f (sym e) in absurd (no-number (rw (t .0) (t .2)))
+      go Link.LineStop e = let t = line-stop-numeric file f (sym e) in absurd (no-number (rw (t .1) (t .3)))
+      go Link.Code e = code-empty b file f r e z
+
+  pub none-tagged : Tagged file f r 0
+  none-tagged = nothing-tagged file f r 0 refl empty-amiss

@@ -8,8 +8,10 @@ use lib.ListN.{length, getD}
 use Rattle.laws.specs.Tests.{pick, both}
 use Rattle.file.specs.Format.{Fields}
 use Rattle.keys.specs.Keys.{has, none}
+use Rattle.link.specs.Links.{linkOf}
 use Rattle.link.specs.Signs.{signOf, isPermitted}
 use Rattle.link.specs.Stage.{amiss}
+use Rattle.link.specs.declared.Link.{Link}
 use Rattle.thirteen.specs.Batch.{Batch, recordsOf}
 
 -- a kind and two numbers below a thousand million as one number
@@ -50,3 +52,7 @@ pub record Tagged (file f : ℕ) (r : Fields) (t : ℕ) : Type 0 where
   pub small : number < none
   pub is : t ≡ tag kind first number
   pub means : (b : Batch) → fine b kind first number ≡ eqb (amiss b file r f) 0
+
+-- no field before this one has a link in this file
+abbrev pub FreeBefore : ℕ → ℕ → Type 0
+FreeBefore file f = (i : ℕ) → i < f → Link.Free ≡ linkOf file i

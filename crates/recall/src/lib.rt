@@ -9,19 +9,20 @@ use targets::links_in;
 use walk::part;
 ghost use mathlib.Core.Path.{_≡_};
 ghost use mathlib.Core.Bool.{true};
-ghost use Prim.Native.Nat.{_≤_, _<_};
+ghost use Prim.Native.Nat.{_+_, _≤_, _<_};
 ghost use lib.ListN.{length};
+ghost use Rattle.file.specs.Files.{fieldsOf};
 ghost use Rattle.field.specs.Names.{field};
 ghost use Rattle.field.specs.Values.{value};
 ghost use Rattle.rules.specs.Texts.{texts, Kinded};
 ghost use Rattle.keys.specs.Keys.{none};
-ghost use Rattle.link.specs.Links.{linkOf};
+ghost use Rattle.link.specs.Links.{linkOf, linksIn};
 ghost use Rattle.link.specs.Numeric.{NumberAt, CodeAt};
 ghost use Rattle.link.specs.Stage.{amiss, fieldAmiss};
 ghost use Rattle.lookup.specs.Ways.{Lasts};
 ghost use Rattle.thirteen.specs.Batch.{thirteen};
 ghost use Rattle.amiss.specs.Sound.{Record};
-ghost use Rattle.recall.specs.Recall.{tag, Recalls, Tagged};
+ghost use Rattle.recall.specs.Recall.{tag, Recalls, Tagged, FreeBefore};
 
 // A kind and two numbers as one.
 fn tag_of(kind: u64, a: u64, x: u64) -> u64
@@ -63,16 +64,12 @@ fn second_tag(x: u64, s: &[u8], places: &[usize; 14]) -> u64
     tag_of(8, value_of(first), x)
 }
 
-// That of a code, unless it is empty.
+// That of a code.
 fn code_tag(file: u64, s: &[u8], places: &[usize; 14], f: u64) -> u64
-    requires { ⌜ (file ≤ 13) × Kinded file (now s) (now places) × CodeAt file f × (linkOf file f ≡ Link.Code) ⌝ }
+    requires { ⌜ (file ≤ 13) × Kinded file (now s) (now places) × CodeAt file f × (linkOf file f ≡ Link.Code) × (length (field f (texts file (now s) (now places))) ≡ 0 → ⊥) ⌝ }
     ensures { λ r. ⌜ Tagged file f (texts file (now (s .entry)) (now (places .entry))) r ⌝ }
 {
-    let text = part(s, places, (f - 1) as usize);
-    if text.len() == 0 {
-        return 0;
-    }
-    let x = value_of(text);
+    let x = value_of(part(s, places, (f - 1) as usize));
     if file != 8 {
         return tag_of(3, file, x);
     }
@@ -82,9 +79,9 @@ fn code_tag(file: u64, s: &[u8], places: &[usize; 14], f: u64) -> u64
     second_tag(x, s, places)
 }
 
-// The tag of field f, where `a` is the number in field 1; 0 only if nothing is wrong with it.
-fn tag_at(file: u64, s: &[u8], places: &[usize; 14], f: u64, a: u64) -> u64
-    requires { ⌜ (file ≤ 13) × Kinded file (now s) (now places) × (a < none) × (a ≡ value (field 1 (texts file (now s) (now places)))) ⌝ }
+// The tag of what field f, which isn't empty, links to, where `a` is the number in field 1; 0 only if nothing is wrong with it.
+fn link_tag(file: u64, s: &[u8], places: &[usize; 14], f: u64, a: u64) -> u64
+    requires { ⌜ (file ≤ 13) × Kinded file (now s) (now places) × (a < none) × (a ≡ value (field 1 (texts file (now s) (now places)))) × (length (field f (texts file (now s) (now places))) ≡ 0 → ⊥) ⌝ }
     ensures { λ r. ⌜ Tagged file f (texts file (now (s .entry)) (now (places .entry))) r ⌝ }
 {
     match link_of(file, f) {
@@ -97,6 +94,18 @@ fn tag_at(file: u64, s: &[u8], places: &[usize; 14], f: u64, a: u64) -> u64
         Link::LineStop => number_tag(7, a, file, s, places, f),
         Link::Code => code_tag(file, s, places, f),
     }
+}
+
+// The same, with a look first whether the field is empty, as most codes are: then nothing is wrong with it, whatever it is.
+fn tag_at(file: u64, s: &[u8], places: &[usize; 14], f: u64, a: u64) -> u64
+    requires { ⌜ (file ≤ 13) × Kinded file (now s) (now places) × (a < none) × (a ≡ value (field 1 (texts file (now s) (now places)))) × (1 ≤ f) × (f ≤ fieldsOf file) ⌝ }
+    ensures { λ r. ⌜ Tagged file f (texts file (now (s .entry)) (now (places .entry))) r ⌝ }
+{
+    let text = part(s, places, (f - 1) as usize);
+    if text.len() == 0 {
+        return 0;
+    }
+    link_tag(file, s, places, f, a)
 }
 
 // Whether nothing is wrong with field f, where `a` is the number in field 1. A link that was found to be met is not looked for again.
@@ -125,7 +134,7 @@ fn field_met<'a>(
     last: &mut [usize],
     table: &mut [u64],
 ) -> bool
-    requires { ⌜ Record (thirteen (now f1) (now f2) (now f3) (now f4) (now f5) (now f6) (now f7) (now f8) (now f9) (now f10) (now f11) (now f12) (now f13)) file (now s) (now places) (now order) (now ways) (now last) (now class) × Recalls (thirteen (now f1) (now f2) (now f3) (now f4) (now f5) (now f6) (now f7) (now f8) (now f9) (now f10) (now f11) (now f12) (now f13)) (now table) × (file ≤ 13) × (a < none) × (a ≡ value (field 1 (texts file (now s) (now places)))) ⌝ }
+    requires { ⌜ Record (thirteen (now f1) (now f2) (now f3) (now f4) (now f5) (now f6) (now f7) (now f8) (now f9) (now f10) (now f11) (now f12) (now f13)) file (now s) (now places) (now order) (now ways) (now last) (now class) × Recalls (thirteen (now f1) (now f2) (now f3) (now f4) (now f5) (now f6) (now f7) (now f8) (now f9) (now f10) (now f11) (now f12) (now f13)) (now table) × (file ≤ 13) × (a < none) × (a ≡ value (field 1 (texts file (now s) (now places)))) × (1 ≤ f) × (f ≤ fieldsOf file) ⌝ }
     ensures { λ r. ⌜ (r ≡ true → amiss (thirteen (now (f1 .entry)) (now (f2 .entry)) (now (f3 .entry)) (now (f4 .entry)) (now (f5 .entry)) (now (f6 .entry)) (now (f7 .entry)) (now (f8 .entry)) (now (f9 .entry)) (now (f10 .entry)) (now (f11 .entry)) (now (f12 .entry)) (now (f13 .entry))) file (texts file (now (s .entry)) (now (places .entry))) f ≡ 0) × Lasts (thirteen (now (f1 .entry)) (now (f2 .entry)) (now (f3 .entry)) (now (f4 .entry)) (now (f5 .entry)) (now (f6 .entry)) (now (f7 .entry)) (now (f8 .entry)) (now (f9 .entry)) (now (f10 .entry)) (now (f11 .entry)) (now (f12 .entry)) (now (f13 .entry))) (now (last .exit)) × Recalls (thirteen (now (f1 .entry)) (now (f2 .entry)) (now (f3 .entry)) (now (f4 .entry)) (now (f5 .entry)) (now (f6 .entry)) (now (f7 .entry)) (now (f8 .entry)) (now (f9 .entry)) (now (f10 .entry)) (now (f11 .entry)) (now (f12 .entry)) (now (f13 .entry))) (now (table .exit)) ⌝ }
 {
     let t = tag_at(file, s, places, f, a);
@@ -167,6 +176,20 @@ fn field_met<'a>(
     true
 }
 
+// The first field of a file that has a link, or one before it: those that stand before have none.
+fn first_link(file: u64) -> u64
+    ensures { λ r. ⌜ (1 ≤ r) × (r ≤ linksIn file + 1) × FreeBefore file r ⌝ }
+{
+    match file {
+        2 => 7,
+        5 => 3,
+        8 => 2,
+        10 => 2,
+        11 => 2,
+        _ => 1,
+    }
+}
+
 // inner: whether nothing is wrong with any field of a record
 pub fn record_met<'a>(
     file: u64,
@@ -196,7 +219,7 @@ pub fn record_met<'a>(
 {
     let n = links_in(file);
     let a = number_of(file, s, places, 1);
-    let mut f: u64 = 1;
+    let mut f = first_link(file);
     while f <= n {
         if !field_met(
             file,

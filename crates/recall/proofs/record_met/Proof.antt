@@ -14,7 +14,7 @@ use Rattle.link.specs.Stage.{firstAmiss, fieldAmiss}
 use Rattle.link.proofs.MatchLaws.{links-few}
 use Rattle.amiss.proofs.RecordLaws.{record-later}
 use Rattle.recall.specs.Recall.{Recalls}
-use Rattle.recall.proofs.FieldLaws.{amiss-start, amiss-turn, amiss-done, fields-few, first-number}
+use Rattle.recall.proofs.FieldLaws.{amiss-from, amiss-turn, amiss-done, fields-few, first-number}
 use Rattle.recall.proofs.record_met.Statement.{statement}
 use Rattle.recall.proofs.record_met.Tie as tie
 
@@ -31,14 +31,15 @@ abbrev begin : tie.After-slice-known2 Inv-loop μ-loop → tie.Start Inv-loop μ
 begin c = c .before .before .before .before .before .before .before .before .before .before .before .before .before .before .before .before .before .before
 
 abbrev start : tie.At-loop Inv-loop μ-loop → tie.Start Inv-loop μ-loop
-start c = begin (c .before .before .before)
+start c = begin (c .before .before .before .before)
 
 loop-holds : tie.Need-loop-holds Inv-loop μ-loop
 loop-holds c =
-    let n = c .before .links-in .ensures in
-    let s = begin (c .before .before) in
+    let n = c .before .before .links-in .ensures in
+    let k = c .first-link .ensures in
+    let s = begin (c .before .before .before) in
     let a = s .args in
-    (omega arith, omega (arith, n, links-few (a .file), fields-few (a .file)), omega arith, s .pre .0 .known .looks .lasts, refl, s .pre .1, refl, amiss-start _ (a .file) _ _ _ n)
+    (k .0, omega (arith, n, links-few (a .file), fields-few (a .file)), omega (arith, n, k .1), s .pre .0 .known .looks .lasts, refl, s .pre .1, refl, amiss-from _ (a .file) _ _ _ _ n (k .0) (omega (arith, n, k .1)) (k .2))
 
 number-of-requires : tie.Need-number-of-requires Inv-loop μ-loop
 number-of-requires c κs =
@@ -49,8 +50,8 @@ field-met-requires : tie.Need-field-met-requires Inv-loop μ-loop
 field-met-requires c κs =
     let l = c .before .before .before in
     let p = start l .pre in
-    let a = l .before .number-of .ensures in
-    (record-later (p .0) _ (l .loop .inv .3), l .loop .inv .5, p .3, a .1, a .0)
+    let a = l .before .before .number-of .ensures in
+    (record-later (p .0) _ (l .loop .inv .3), l .loop .inv .5, p .3, a .1, a .0, l .loop .inv .0, omega (arith, c .before .before .loop-test .taken, l .before .before .before .links-in .ensures, links-few (start l .args .file)))
 
 same-length : tie.Need-same-length Inv-loop μ-loop
 same-length c = let x = c .before .before .before .before .before in x .field-met .kept .1 .1 .1 .1 .1 .1 .1 .1 .1 .1 .1 .1 .1 .1 .1 .1 .1 .1 .1 .1 .1 .0 ∙ x .before .before .before .before .loop .inv .4
@@ -70,7 +71,7 @@ loop-again c =
     let l = t .before in
     let i = l .loop .inv in
     let m = x .field-met in
-    let more : l .loop .f ≤ l .before .before .links-in .result = omega (arith, t .loop-test .taken) in
+    let more : l .loop .f ≤ l .before .before .before .links-in .result = omega (arith, t .loop-test .taken) in
     (omega arith, i .1, omega (arith, more), m .ensures .1, m .kept .1 .1 .1 .1 .1 .1 .1 .1 .1 .1 .1 .1 .1 .1 .1 .1 .1 .1 .1 .1 .1 .0 ∙ i .4, m .ensures .2, m .kept .1 .1 .1 .1 .1 .1 .1 .1 .1 .1 .1 .1 .1 .1 .1 .1 .1 .1 .1 .1 .1 .1 .0 ∙ i .6, sym (amiss-turn _ (start l .args .file) _ (l .loop .f) _ more (m .ensures .0 (not-false _ (c .if1 .left)))) ∙ i .7)
 
 returns-2 : tie.Need-returns-2 Inv-loop μ-loop
@@ -87,6 +88,7 @@ record-met-spec =
     μ-loop
     (λ c κs. search needs)  -- links-in-requires
     number-of-requires
+    (λ c κs. search needs)  -- first-link-requires
     loop-holds
     field-met-requires
     same-length

@@ -27,6 +27,7 @@ use Rattle.kept.proofs.TripStops.{stops-exactly}
 use Rattle.kept.proofs.RuleLaws.{rule-no-pass}
 use Rattle.fault.specs.OneResult.{fault-no-values}
 use Rattle.alone.specs.Order.{lengthFault, bytesFault, versionFault, firstFault}
+use Rattle.alone.proofs.FileLaws.{not-long}
 use Rattle.alone.proofs.OrderLaws.{first-each}
 use Rattle.batch.specs.Order.{stages, faultOf}
 use Rattle.outcome.specs.Answers.{numberedVerdict}
@@ -35,7 +36,7 @@ use Rattle.batch.specs.Verdicts.{countsOf, verdictOf, VerdictIs}
 use Rattle.batch.proofs.AcceptedLaws.{no-links, stands}
 use Rattle.accepted.specs.Keeps.{Keeps}
 use Rattle.accepted.specs.Verdicts.{IsAccepted}
-use Rattle.accepted.proofs.FileRules.{each-over, length-kept, kept-length, bytes-kept, kept-bytes, version-kept, kept-version}
+use Rattle.accepted.proofs.FileRules.{each-over, kept-length, bytes-kept, kept-bytes, version-kept, kept-version}
 use Rattle.accepted.proofs.FieldRules.{Rules, kinds-kept, rules-kept, kept-fields, all-rules, rules-all}
 use Rattle.accepted.proofs.TripRules.{trips-kept, kept-trips}
 
@@ -61,7 +62,7 @@ keeps b e =
     let k : Linking b = linked b none in
     let trips = trips-kept b (zero-at 5 (omega arith)) in
     record {
-      lengths = λ file h l. length-kept b file (at-file (lengthFault b) 1 13 (zero-at 0 (omega arith)) file h (omega arith));
+      lengths = λ file h l. not-long b file (at-file (lengthFault b) 1 13 (zero-at 0 (omega arith)) file h (omega arith));
       legal = λ file h l. bytes-kept b file h l (at-file (bytesFault b) 1 13 (zero-at 1 (omega arith)) file h (omega arith));
       version = version-kept b (zero-at 2 (omega arith));
       kinds = λ file h l. kinds-kept b file (fields file h l);

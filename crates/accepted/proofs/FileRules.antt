@@ -4,9 +4,7 @@ use mathlib.Core.Bool.{true}
 use mathlib.Core.List.{List, [], _∷_}
 use Prim.Native.Nat.{ℕ, zero, suc, _+_, _≤_, _<_}
 use native.Mathlib.Omega.{arith}
-use lib.Dec.{leb}
 use lib.ListN.{length, getD}
-use borrow.Author.Tests.{leb-true}
 use Rattle.laws.specs.Tests.{either}
 use Rattle.laws.specs.Numbered.{Numbered}
 use Rattle.file.specs.Files.{fieldCounts, fieldsOf, longest}
@@ -33,13 +31,6 @@ each-over fault file (suc count) g =
     rw p (each-over fault (file + 1) count (λ i l. let y : file + suc i ≡ file + 1 + i = omega arith in rw y at (g (suc i) (omega arith))))
 
 -- 1
-pub length-kept : (b : Batch) (file : ℕ) → lengthFault b file .number ≡ 0 → length (fileIn b file) ≤ longest
-unfolding lengthFault
-length-kept b file e =
-    either (leb (length (fileIn b file)) longest)
-    (λ t. leb-true (length (fileIn b file)) longest t)
-    (λ t. let z = rw t at e in absurd (omega arith))
-
 pub kept-length : (b : Batch) (file : ℕ) → length (fileIn b file) ≤ longest → lengthFault b file .number ≡ 0
 kept-length b file h = ap (λ (a : Numbered). a .number) (short-enough b file (fileIn b file) refl h)
 

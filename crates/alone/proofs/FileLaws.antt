@@ -6,8 +6,8 @@ use Prim.Native.Nat.{ℕ, _+_, _-_, _≤_, _<_}
 use native.Mathlib.Omega.{arith}
 use lib.Dec.{eqb, leb}
 use lib.ListN.{length, getD}
-use borrow.Author.Tests.{le-leb, lt-leb}
-use Rattle.laws.specs.Tests.{both, both-true}
+use borrow.Author.Tests.{le-leb, lt-leb, leb-true}
+use Rattle.laws.specs.Tests.{both, both-true, either}
 use Rattle.laws.specs.Numbered.{answered, refusedAt, refusedIn}
 use Rattle.file.specs.Files.{isFile, fieldsOf, longest}
 use Rattle.file.specs.Format.{Text, Fields}
@@ -68,6 +68,14 @@ module _ (b : Batch) (file : ℕ) (s : List ℕ) (e : s ≡ fileIn b file) where
           few = rw z (fields-few file (is-file file h l));
           legal = rw (z, e) (legal file h l);
         }
+
+-- a file with no fault of its length isn't too long
+pub not-long : (b : Batch) (file : ℕ) → lengthFault b file .number ≡ 0 → length (fileIn b file) ≤ longest
+unfolding lengthFault
+not-long b file e =
+    either (leb (length (fileIn b file)) longest)
+    (λ t. leb-true (length (fileIn b file)) longest t)
+    (λ t. let z = rw t at e in absurd (omega arith))
 
 -- a file whose reading has no fault is legal
 pub outcome-whole : (file n : ℕ) (s : List ℕ) → 1 ≤ n → (o : Outcome) → reading n s ≡ o → outcomeFault file o .number ≡ 0 → LegalFrom n s 0

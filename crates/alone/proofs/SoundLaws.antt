@@ -8,17 +8,12 @@ use lib.ListN.{length}
 use Rattle.laws.specs.Numbered.{Numbered, answered}
 use Rattle.file.specs.Files.{fieldCounts, fieldsOf, longest}
 use Rattle.field.specs.Stage.{fieldFault}
-use Rattle.fields.proofs.StageLaws.{fields-few}
 use Rattle.thirteen.specs.Batch.{Batch, fileIn, recordsOf, overFiles}
 use Rattle.walk.specs.Walk.{LegalFrom}
-use Rattle.sweep.specs.Sweep.{Fielded, SoundFrom}
+use Rattle.sweep.specs.Sweep.{SoundFrom}
 use Rattle.alone.specs.Order.{lengthFault, outcomeFault, bytesFault, versionFault, firstFault, fileStages}
 use Rattle.alone.specs.Sound.{RightVersion, SoundFile, SoundFiles}
-use Rattle.alone.proofs.FileLaws.{is-file, short-enough}
-
--- a file of this number has so many fields
-pub fielded : (file n : ℕ) → n ≡ fieldsOf file → 1 ≤ file → file ≤ 13 → Fielded file n
-fielded file n e h l = record { file-is = is-file file h l; fields = e; few = rw e (fields-few file (is-file file h l)) }
+use Rattle.alone.proofs.FileLaws.{short-enough}
 
 -- the file that was chosen by its number is sound
 pub sound-file : (b : Batch) (file n : ℕ) (s : List ℕ) → s ≡ fileIn b file → n ≡ fieldsOf file → length s ≤ longest → SoundFrom file n s 0 → SoundFile file (fileIn b file)

@@ -1,4 +1,4 @@
--- What the one pass over the files sees: none of them has a fault of its own.
+-- What the sweep over the files sees: none of them has a fault of its own.
 use Prim.Native.Nat.{ℕ, _≤_}
 use mathlib.Core.Path.{_≡_}
 use mathlib.Core.List.{List, []}

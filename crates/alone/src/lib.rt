@@ -30,8 +30,8 @@ ghost use Rattle.alone.specs.Order.{lengthFault, bytesFault, isVersion, 
 // The greatest length of a file.
 const LONGEST: usize = 16_777_215;
 
-// 1: the first file that is too long.
-fn first_long<'a>(
+// inner: the first file that is too long, refusal 1
+pub fn first_long<'a>(
     f1: &'a [u8],
     f2: &'a [u8],
     f3: &'a [u8],
@@ -233,8 +233,8 @@ fn check_stages<'a>(
     first_unsound(f1, f2, f3, f4, f5, f6, f7, f8, f9, f10, f11, f12, f13)
 }
 
-// Whether VerzeJDF has none of 1 to 4.
-fn is_right_version(s: &[u8]) -> bool
+// inner: whether VerzeJDF has none of 1 to 4
+pub fn is_right_version(s: &[u8]) -> bool
     ensures { λ r. ⌜ (r ≡ true → RightVersion (now (s .entry))) ⌝ }
 {
     if s.len() > LONGEST {

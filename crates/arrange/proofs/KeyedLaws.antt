@@ -3,12 +3,12 @@ use mathlib.Core.Path.{_≡_}
 use mathlib.Core.List.{List, [], _∷_}
 use Prim.Native.Nat.{ℕ, _+_, _-_, _≤_, _<_}
 use native.Mathlib.Omega.{arith}
-use lib.Dec.{eqb, leb}
-use lib.ListN.{length, getD}
-use borrow.Author.Tests.{eqb-true, leb-true}
+use lib.Dec.{eqb}
+use lib.ListN.{getD}
+use borrow.Author.Tests.{eqb-true}
 use Rattle.laws.specs.Tests.{either}
 use Rattle.laws.specs.Numbered.{answered}
-use Rattle.file.specs.Files.{fieldsOf, longest}
+use Rattle.file.specs.Files.{fieldsOf}
 use Rattle.file.specs.Format.{Fields, Permitted}
 use Rattle.field.specs.Rules.{meets}
 use Rattle.field.specs.Stage.{firstUnkind, recordFault, faultsFrom, fieldFault}
@@ -18,7 +18,7 @@ use Rattle.thirteen.proofs.OverLaws.{over-each}
 use Rattle.lines.proofs.LineLaws.{all-permitted}
 use Rattle.link.proofs.KindOfLinks.{keyed-kinds}
 use Rattle.alone.specs.Order.{lengthFault, firstFault, fileStages}
-use Rattle.alone.proofs.FileLaws.{some-fields, legal-files}
+use Rattle.alone.proofs.FileLaws.{some-fields, not-long, legal-files}
 use Rattle.alone.proofs.OrderLaws.{first-each}
 use Rattle.parts.specs.Keyed.{KeyedFiles}
 
@@ -32,14 +32,6 @@ faultless-keyed file k (r ∷ rs) e p =
     either (meets file r)
     (λ q. (keyed-kinds file r (eqb-true (firstUnkind file 1 r) 0 t) (p .0 .0), faultless-keyed file (k + 1) rs (rw (t, q) at e) (p .1)))
     (λ q. let z = rw (t, q) at e in absurd (omega arith)))
-    (λ t. let z = rw t at e in absurd (omega arith))
-
--- a file with no fault of its length isn't too long
-not-long : (b : Batch) (file : ℕ) → lengthFault b file .number ≡ 0 → length (fileIn b file) ≤ longest
-unfolding lengthFault
-not-long b file e =
-    either (leb (length (fileIn b file)) longest)
-    (λ t. leb-true (length (fileIn b file)) longest t)
     (λ t. let z = rw t at e in absurd (omega arith))
 
 pub keyed-files : (b : Batch) → firstFault (fileStages b) .number ≡ 0 → KeyedFiles b

@@ -1,3 +1,3 @@
-pub mod TextLaws
+pub mod FieldLaws
 pub mod PlaceLaws
 pub mod SoundLaws

@@ -1,106 +1,25 @@
--- A record that is read field by field: what the places say of each text, and that the bytes are the writing of all.
+-- A record whose fields were read: what the places say of each text, and that the bytes are the writing of all.
 use mathlib.Core.Path.{_≡_, refl, sym, ap, _∙_, subst}
-use mathlib.Core.Bool.{true, false}
+use mathlib.Core.Bool.{Bool, true, false}
 use mathlib.Core.List.{List, [], _∷_, _++_, append-assoc}
 use Prim.Native.Nat.{ℕ, zero, suc, _+_, _-_, _≤_, _<_}
 use native.Mathlib.Numerals.{add-one}
 use native.Mathlib.Omega.{arith}
-use native.Mathlib.Decide.{ℕ-discrete}
-use lib.ListN.{length, drop, set, length-set, take-append-drop}
-use lib.Seq.{drop-drop, getD-set-same, getD-set-other}
-use borrow.Author.Tests.{eqb-true, lt-ltb, le-ltb}
-use Rattle.laws.specs.Tests.{never}
-use Rattle.file.specs.Bytes.{quote, comma, semicolon, CR, LF, starts, permittedText}
+use lib.ListN.{drop}
+use borrow.Author.Tests.{lt-ltb, le-ltb}
+use Rattle.file.specs.Bytes.{quote, comma, semicolon, CR, LF, permittedText}
 use Rattle.file.specs.Format.{Text, Fields, writtenField, writtenRecord, PermittedTexts}
 use Rattle.file.specs.Records.{upTo}
 use Rattle.field.specs.Kinds.{kindOf, admits}
 use Rattle.field.specs.Stage.{firstUnkind}
 use Rattle.walk.specs.Walk.{startOf, partOf, cutRecord, Parted}
-use Rattle.sweep.specs.Sweep.{between, FieldTo, follower, LineTo, ReadTo}
-
--- a byte that stands at a place is the first from there on
-starts-cons : (b : ℕ) (l : List ℕ) → starts b l ≡ true → l ≡ b ∷ drop 1 l
-unfolding starts
-starts-cons b [] h = never h
-starts-cons b (x ∷ l) h = rw (eqb-true x b h)
-
-starts-bytes : (b : ℕ) (s : List ℕ) (at : ℕ) → starts b (drop at s) ≡ true → drop at s ≡ b ∷ drop (at + 1) s
-starts-bytes b s at h = starts-cons b (drop at s) h ∙ ap (λ (x : List ℕ). b ∷ x) (drop-drop 1 at s)
-
--- the text of field f stands from p on, and that of the next would from q on
-pub record TextAt (file f : ℕ) (s : List ℕ) (p q : ℕ) : Type 0 where
-  pub order : p + 3 ≤ q
-  pub near : q ≤ length s + 2
-  pub bytes : drop (p - 1) s ≡ quote ∷ (between s p (q - 3) ++ quote ∷ drop (q - 2) s)
-  pub fits : permittedText (between s p (q - 3)) ≡ true
-  pub kind : admits (kindOf file f) (between s p (q - 3)) ≡ true
-
-text-at : (file f : ℕ) (s : List ℕ) (at close : ℕ) → FieldTo file f s at close → TextAt file f s (at + 1) (close + 2)
-text-at file f s at close h =
-    let x : close + 2 - 3 ≡ close - 1 = omega arith in
-    let y : close + 2 - 2 ≡ close = omega arith in
-    let z : at + 1 - 1 ≡ at = omega arith in
-    let t = between s (at + 1) (close - 1) in
-    let u = h .text .order in
-    let b : drop (close - 1 - (at + 1)) (drop (at + 1) s) ≡ drop (close - 1) s = let k : at + 1 + (close - 1 - (at + 1)) ≡ close - 1 = omega arith in rw (drop-drop, k) in
-    let c : close - 1 + 1 ≡ close = omega (arith, h .far) in
-    let d : drop (close - 1) s ≡ quote ∷ drop close s = rw c at (starts-bytes quote s (close - 1) (h .shut)) in
-    let e : drop (at + 1) s ≡ t ++ quote ∷ drop close s = sym (take-append-drop (close - 1 - (at + 1)) (drop (at + 1) s)) ∙ ap (λ (l : List ℕ). t ++ l) (b ∙ d) in
-    record {
-      order = omega (arith, h .far);
-      near = omega (arith, h .near);
-      bytes = rw (x, y, z) (starts-bytes quote s at (h .opened) ∙ ap (λ (l : List ℕ). quote ∷ l) e);
-      fits = rw x (h .text .fits);
-      kind = rw x (h .text .is);
-    }
-
--- f fields of n were read, and the places say where their texts start and that of the next would
-pub record Come (file n : ℕ) (s : List ℕ) (start : ℕ) (places : List ℕ) (f : ℕ) : Type 0 where
-  pub room : length places ≡ 14
-  pub first : startOf places 0 ≡ start + 1
-  pub fields : (j : ℕ) → j < f → TextAt file (j + 1) s (startOf places j) (startOf places (j + 1))
-  pub marks : (j : ℕ) → j < f → starts (follower (j + 1) n) (drop (startOf places (j + 1) - 2) s) ≡ true
-
-pub come-first : (file n : ℕ) (s : List ℕ) (start : ℕ) (old : List ℕ) → length old ≡ 14 → Come file n s start (set old 0 (start + 1)) 0
-come-first file n s start old h =
-    record {
-      room = simp length-set h;
-      first = getD-set-same old 0 (start + 1) 0 (omega arith);
-      fields = λ j l. absurd (omega arith);
-      marks = λ j l. absurd (omega arith);
-    }
-
--- one more field, due at `at`
-module _ (file n : ℕ) (s : List ℕ) (start : ℕ) (places : List ℕ) (f : ℕ) (c : Come file n s start places f) (few : f < 13) (at close : ℕ) (here : startOf places f ≡ at + 1) (h : FieldTo file (f + 1) s at close)
-    (m : starts (follower (f + 1) n) (drop close s) ≡ true) where
-  abbrev more : List ℕ
-  more = set places (f + 1) (close + 1 + 1)
-
-  same : (j : ℕ) → j ≤ f → startOf more j ≡ startOf places j
-  same j l = getD-set-other places (f + 1) j (close + 1 + 1) 0 (λ (z : j ≡ f + 1). omega arith)
-
-  pub new-mark : startOf more (f + 1) ≡ close + 2
-  new-mark = getD-set-same places (f + 1) (close + 1 + 1) 0 (omega (arith, c .room)) ∙ omega arith
-
-  more-fields : (j : ℕ) → j < f + 1 → Dec (j ≡ f) → TextAt file (j + 1) s (startOf more j) (startOf more (j + 1))
-  more-fields j l (yes z) = rw (z, new-mark, same f (omega arith), here) (text-at file (f + 1) s at close h)
-  more-fields j l (no z) = rw (same j (omega arith), same (j + 1) (omega arith)) (c .fields j (omega arith))
-
-  more-marks : (j : ℕ) → j < f + 1 → Dec (j ≡ f) → starts (follower (j + 1) n) (drop (startOf more (j + 1) - 2) s) ≡ true
-  more-marks j l (yes z) = let y : close + 2 - 2 ≡ close = omega arith in rw (z, new-mark, y) m
-  more-marks j l (no z) = rw (same (j + 1) (omega arith)) (c .marks j (omega arith))
-
-  pub come-next : Come file n s start more (f + 1)
-  come-next =
-      record {
-        room = simp length-set (c .room);
-        first = same 0 (omega arith) ∙ c .first;
-        fields = λ j l. more-fields j l (ℕ-discrete j f);
-        marks = λ j l. more-marks j l (ℕ-discrete j f);
-      }
+use Rattle.extent.specs.Extent.{between}
+use Rattle.onward.specs.Onward.{follower, Come, Due}
+use Rattle.onward.proofs.StepLaws.{starts-bytes}
+use Rattle.sweep.specs.Sweep.{LineTo, ReadTo}
 
 -- a whole field: its bytes, and what follows it
-record FieldIs (last : mathlib.Core.Bool.Bool) (s : List ℕ) (at : ℕ) (t : Text) (next : ℕ) : Type 0 where
+record FieldIs (last : Bool) (s : List ℕ) (at : ℕ) (t : Text) (next : ℕ) : Type 0 where
   bytes : drop at s ≡ writtenField last t ++ drop next s
   fits : permittedText t ≡ true
 
@@ -194,13 +113,19 @@ module _ (file m : ℕ) (s : List ℕ) (start : ℕ) (places : List ℕ) (c : Co
         kinds = rw (add-one m) kinds;
       }
 
--- the same, where the loop over the fields comes to its end at `at`
-pub come-all : (file n : ℕ) (s : List ℕ) (start : ℕ) (places : List ℕ) (f at next : ℕ) → Come file n s start places f → f ≡ n → 1 ≤ n → n ≤ 13 → start ≤ at → startOf places f ≡ at + 1
-    → LineTo s at next → ReadTo file n s start places next
-come-all file n s start places f at next c e some few from here h =
-    let z : n ≡ n - 1 + 1 = omega arith in
-    let d = subst (λ (x : ℕ). Come file x s start places (n - 1 + 1)) z (subst (λ (x : ℕ). Come file n s start places x) (e ∙ z) c) in
-    let w : startOf places (n - 1 + 1) ≡ at + 1 = subst (λ (x : ℕ). startOf places x ≡ at + 1) (e ∙ z) here in
+-- the same, where the line's end is due at `at`
+pub due-all : (file n m : ℕ) (s : List ℕ) (start : ℕ) (places : List ℕ) (f at next : ℕ) → Due file m s start places f at → n ≡ m → f ≡ m → 1 ≤ m → LineTo s at next → ReadTo file n s start places next
+due-all file n m s start places f at next d same all some h =
+    let z : m ≡ n - 1 + 1 = omega arith in
+    let w : f ≡ n - 1 + 1 = omega arith in
+    let y : n - 1 + 1 ≡ n = omega arith in
+    let c = subst (λ (x : ℕ). Come file x s start places (n - 1 + 1)) z (subst (λ (x : ℕ). Come file m s start places x) w (d .come)) in
+    let p : startOf places (n - 1 + 1) ≡ at + 1 = subst (λ (x : ℕ). startOf places x ≡ at + 1) w (d .here) in
     let k : at ≡ startOf places (n - 1 + 1) - 1 = omega arith in
-    subst (λ (x : ℕ). ReadTo file x s start places next) (sym z)
-    (come-last file (n - 1) s start places d (omega arith) next (subst (λ (x : ℕ). LineTo s x next) k h) (omega arith))
+    subst (λ (x : ℕ). ReadTo file x s start places next) y
+    (come-last file (n - 1) s start places c (omega (arith, d .few)) next (subst (λ (x : ℕ). LineTo s x next) k h) (omega (arith, d .from)))
+
+-- a record that was read, by the numbers that its file and its fields were found to have
+pub read-as : {file k n m : ℕ} {s : List ℕ} {start : ℕ} {places : List ℕ} {next : ℕ} → file ≡ k → n ≡ m → ReadTo k m s start places next → ReadTo file n s start places next
+read-as {k = k} {n = n} {s = s} {start = start} {places = places} {next = next} e d h =
+    subst (λ (x : ℕ). ReadTo x n s start places next) (sym e) (subst (λ (x : ℕ). ReadTo k x s start places next) (sym d) h)

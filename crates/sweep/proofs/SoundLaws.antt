@@ -3,8 +3,11 @@ use mathlib.Core.Path.{_≡_, refl, sym, ap, _∙_, subst}
 use mathlib.Core.Bool.{Bool, true}
 use mathlib.Core.List.{List, _∷_, _++_}
 use Prim.Native.Nat.{ℕ, _+_, _≤_}
+use lib.Dec.{leb}
 use lib.ListN.{length, drop, drop-of-length-le}
-use Rattle.file.specs.Files.{fieldsOf}
+use borrow.Author.Tests.{le-leb}
+use Rattle.laws.specs.Tests.{both-true}
+use Rattle.file.specs.Files.{isFile, fieldsOf}
 use Rattle.file.specs.Format.{Fields, writtenRecord, written, Permitted}
 use Rattle.file.specs.Reading.{run, outcomeIn}
 use Rattle.file.specs.Records.{recordsIn}
@@ -13,11 +16,17 @@ use Rattle.file.proofs.PlaceLaws.{read-count}
 use Rattle.file.proofs.RecordLaws.{written-records, legible}
 use Rattle.field.specs.Rules.{meets}
 use Rattle.field.specs.Stage.{firstUnkind}
-use Rattle.fields.proofs.StageLaws.{fault-none, fault-done}
+use Rattle.fields.proofs.StageLaws.{fields-few, fault-none, fault-done}
 use Rattle.rules.specs.Texts.{Kinded}
 use Rattle.walk.specs.Walk.{Parted, cutRecord}
 use Rattle.walk.proofs.WalkLaws.{cut-size, none-left}
 use Rattle.sweep.specs.Sweep.{ReadTo, Fielded, SoundFrom}
+
+-- a file of this number has so many fields
+pub fielded : (file n : ℕ) → n ≡ fieldsOf file → 1 ≤ file → file ≤ 13 → Fielded file n
+fielded file n e h l =
+    let f : isFile file ≡ true = both-true (leb 1 file) (leb file 13) (le-leb 1 file h) (le-leb file 13 l) in
+    record { file-is = f; fields = e; few = rw e (fields-few file f) }
 
 -- a record of every file has a field
 pub some-fields : (file n : ℕ) → Fielded file n → 1 ≤ n
@@ -63,7 +72,7 @@ module _ (file n : ℕ) (s : List ℕ) (at : ℕ) (places : List ℕ) (next : �
     unfolding Permitted
     permitted = ((cut-size n s places, r .texts), legible n (drop next s) (w .legal .count) (w .legal .reads) .permitted)
 
-    records : recordsIn n (drop at s) ≡ first ∷ others
+    pub records : recordsIn n (drop at s) ≡ first ∷ others
     records = rw bytes (written-records n some (first ∷ others) permitted)
 
     pub sound-step : meets file first ≡ true → SoundFrom file n s at

@@ -1,114 +1,29 @@
 // One pass over a file that sees whether it is legal and sound: document 01's 2, 3, 5 and 6, where there are none. The bytes of a field are read by
 // its kind, so that a number's are looked at once, and its place is marked; the record's rules are tried while it is at hand. What is wrong, and
-// where, is not said: 0 is answered, which is no place behind a byte.
+// where, is not said: 0 is answered, which is no place behind a byte. The files that are long have readers of their own, that know their kinds and
+// answer 0 where n is not how many fields they have.
 ghost use mathlib.Core.Path.{_≡_};
 ghost use mathlib.Core.Bool.{true};
-ghost use Prim.Native.Nat.{_≤_, _<_};
-ghost use lib.ListN.{length, drop};
-ghost use Rattle.file.specs.Reader.{Classes, Reached};
+ghost use Prim.Native.Nat.{_≤_};
+ghost use lib.ListN.{length};
+ghost use Rattle.file.specs.Reader.{Classes};
+ghost use Rattle.field.specs.Kinds.{kindOf};
 ghost use Rattle.field.specs.declared.Kind.{Kind};
-ghost use Rattle.sweep.specs.Sweep.{digitRun, TextTo, FieldTo, follower, LineTo, ReadTo, Fielded, SoundFrom};
+ghost use Rattle.onward.specs.Onward.{Due, LineFirst};
+ghost use Rattle.sweep.specs.Sweep.{LineTo, ReadTo, Fielded, SoundFrom};
 use field::Kind;
-use field::admits_text;
 use file::classes;
-use kinds::kind_of;
-use quotes::text_end;
+use onward::any_on;
+use onward::begin;
+use onward::codes_on;
+use onward::line_and_number;
+use onward::maybe_number_on;
+use onward::maybe_on;
+use onward::number_on;
+use onward::text_on;
+use onward::time_on;
 use rules::meets_rules;
 use scanner::stands;
-
-// The first place from `at` on at which no digit stands.
-fn digits_end(s: &[u8], at: usize) -> usize
-    requires { ⌜ at ≤ length (now s) ⌝ }
-    ensures { λ r. ⌜ Reached (now (s .entry)) at (digitRun (drop at (now (s .entry)))) r ⌝ }
-{
-    let mut i = at;
-    while i < s.len() {
-        let b = s[i];
-        if b < b'0' {
-            return i;
-        }
-        if b > b'9' {
-            return i;
-        }
-        i += 1;
-    }
-    i
-}
-
-// Where a number of a to b digits ends that starts at this place.
-fn number_end(s: &[u8], at: usize, a: usize, b: usize) -> usize
-    requires { ⌜ at ≤ length (now s) ⌝ }
-    ensures { λ r. ⌜ ((r ≡ 0 → ⊥) → TextTo (Kind.Digits a b) (now (s .entry)) at r) ⌝ }
-{
-    let end = digits_end(s, at);
-    if end - at < a {
-        return 0;
-    }
-    if end - at > b {
-        return 0;
-    }
-    end
-}
-
-// The same, or no text at all.
-fn maybe_number_end(s: &[u8], at: usize, a: usize, b: usize) -> usize
-    requires { ⌜ at ≤ length (now s) ⌝ }
-    ensures { λ r. ⌜ ((r ≡ 0 → ⊥) → TextTo (Kind.MaybeDigits a b) (now (s .entry)) at r) ⌝ }
-{
-    if stands(s, at, b'"') {
-        return at;
-    }
-    number_end(s, at, a, b)
-}
-
-// Where a text of some kind ends.
-fn any_end(kind: Kind, s: &[u8], at: usize, class: &[u8; 256]) -> usize
-    requires { ⌜ (at ≤ length (now s)) × Classes (now class) ⌝ }
-    ensures { λ r. ⌜ ((r ≡ 0 → ⊥) → TextTo kind (now (s .entry)) at r) ⌝ }
-{
-    let end = text_end(s, at, class);
-    if !admits_text(kind, &s[at..end]) {
-        return 0;
-    }
-    end
-}
-
-// Where the text of this kind ends that starts at this place.
-fn kind_end(kind: Kind, s: &[u8], at: usize, class: &[u8; 256]) -> usize
-    requires { ⌜ (at ≤ length (now s)) × Classes (now class) ⌝ }
-    ensures { λ r. ⌜ ((r ≡ 0 → ⊥) → TextTo kind (now (s .entry)) at r) ⌝ }
-{
-    match kind {
-        Kind::Digits(a, b) => number_end(s, at, a, b),
-        Kind::MaybeDigits(a, b) => maybe_number_end(s, at, a, b),
-        _ => any_end(kind, s, at, class),
-    }
-}
-
-// The place behind the closing quote of field f, due at this place.
-fn field_end(file: u64, f: u64, s: &[u8], at: usize, class: &[u8; 256]) -> usize
-    requires { ⌜ Classes (now class) ⌝ }
-    ensures { λ r. ⌜ ((r ≡ 0 → ⊥) → FieldTo file f (now (s .entry)) at r) ⌝ }
-{
-    if !stands(s, at, b'"') {
-        return 0;
-    }
-    let end = kind_end(kind_of(file, f), s, at + 1, class);
-    if end == 0 {
-        return 0;
-    }
-    if !stands(s, end, b'"') {
-        return 0;
-    }
-    end + 1
-}
-
-// What follows field f of n.
-fn follower_of(f: usize, n: usize) -> u8
-    ensures { λ r. ⌜ r ≡ follower f n ⌝ }
-{
-    if f < n { b',' } else { b';' }
-}
 
 // The place behind CR and LF, due at this place.
 fn line_end(s: &[u8], at: usize) -> usize
@@ -123,38 +38,321 @@ fn line_end(s: &[u8], at: usize) -> usize
     at + 2
 }
 
-// Reads the record that starts at this place, and marks its texts' places as `walk::cut` does. Answers where the next record starts.
-fn read_record(
+// Reads what is behind the first four fields of a record of Zastavky, due at this place.
+fn zastavky_rest(
+    s: &[u8],
+    start: usize,
+    from: usize,
+    class: &[u8; 256],
+    places: &mut [usize; 14],
+) -> usize
+    requires { ⌜ Due 2 12 (now s) start (now places) 4 from × Classes (now class) ⌝ }
+    ensures { λ r. ⌜ ((r ≡ 0 → ⊥) → ReadTo 2 12 (now (s .entry)) start (now (places .exit)) r) ⌝ }
+{
+    let at = text_on(2, 4, 12, s, start, from, 0, 3, class, places);
+    if at == 0 {
+        return 0;
+    }
+    let at = text_on(2, 5, 12, s, start, at, 1, 3, class, places);
+    if at == 0 {
+        return 0;
+    }
+    let at = codes_on(2, 6, 12, 12, s, start, at, places);
+    if at == 0 {
+        return 0;
+    }
+    line_end(s, at)
+}
+
+// Reads a record of Zastavky as `read_on` does.
+fn read_zastavky(
+    s: &[u8],
+    start: usize,
+    n: usize,
+    class: &[u8; 256],
+    places: &mut [usize; 14],
+) -> usize
+    requires { ⌜ (start ≤ length (now s)) × Classes (now class) ⌝ }
+    ensures { λ r. ⌜ ((r ≡ 0 → ⊥) → ReadTo 2 n (now (s .entry)) start (now (places .exit)) r) ⌝ }
+{
+    if n != 12 {
+        return 0;
+    }
+    let at = begin(2, 12, s, start, places);
+    let at = number_on(2, 0, 12, s, start, at, 1, 9, places);
+    if at == 0 {
+        return 0;
+    }
+    let at = text_on(2, 1, 12, s, start, at, 1, 48, class, places);
+    if at == 0 {
+        return 0;
+    }
+    let at = text_on(2, 2, 12, s, start, at, 0, 48, class, places);
+    if at == 0 {
+        return 0;
+    }
+    let at = text_on(2, 3, 12, s, start, at, 0, 48, class, places);
+    if at == 0 {
+        return 0;
+    }
+    zastavky_rest(s, start, at, class, places)
+}
+
+// The same, of Spoje.
+fn read_spoje(s: &[u8], start: usize, n: usize, places: &mut [usize; 14]) -> usize
+    requires { ⌜ start ≤ length (now s) ⌝ }
+    ensures { λ r. ⌜ ((r ≡ 0 → ⊥) → ReadTo 6 n (now (s .entry)) start (now (places .exit)) r) ⌝ }
+{
+    if n != 12 {
+        return 0;
+    }
+    let at = line_and_number(6, 12, s, start, places);
+    if at == 0 {
+        return 0;
+    }
+    let at = codes_on(6, 2, 12, 12, s, start, at, places);
+    if at == 0 {
+        return 0;
+    }
+    line_end(s, at)
+}
+
+// The same, of Zaslinky.
+fn read_zaslinky(
+    s: &[u8],
+    start: usize,
+    n: usize,
+    class: &[u8; 256],
+    places: &mut [usize; 14],
+) -> usize
+    requires { ⌜ (start ≤ length (now s)) × Classes (now class) ⌝ }
+    ensures { λ r. ⌜ ((r ≡ 0 → ⊥) → ReadTo 7 n (now (s .entry)) start (now (places .exit)) r) ⌝ }
+{
+    if n != 7 {
+        return 0;
+    }
+    let at = line_and_number(7, 7, s, start, places);
+    if at == 0 {
+        return 0;
+    }
+    let at = text_on(7, 2, 7, s, start, at, 0, 254, class, places);
+    if at == 0 {
+        return 0;
+    }
+    let at = number_on(7, 3, 7, s, start, at, 1, 9, places);
+    if at == 0 {
+        return 0;
+    }
+    let at = codes_on(7, 4, 7, 7, s, start, at, places);
+    if at == 0 {
+        return 0;
+    }
+    line_end(s, at)
+}
+
+// Reads what is behind the first five fields of a record of Zasspoje, due at this place.
+fn zasspoje_rest(s: &[u8], start: usize, from: usize, places: &mut [usize; 14]) -> usize
+    requires { ⌜ Due 8 10 (now s) start (now places) 5 from ⌝ }
+    ensures { λ r. ⌜ ((r ≡ 0 → ⊥) → ReadTo 8 10 (now (s .entry)) start (now (places .exit)) r) ⌝ }
+{
+    let at = codes_on(8, 5, 7, 10, s, start, from, places);
+    if at == 0 {
+        return 0;
+    }
+    let at = maybe_number_on(8, 7, 10, s, start, at, 1, 9, places);
+    if at == 0 {
+        return 0;
+    }
+    let at = time_on(8, 8, 10, s, start, at, places);
+    if at == 0 {
+        return 0;
+    }
+    let at = time_on(8, 9, 10, s, start, at, places);
+    if at == 0 {
+        return 0;
+    }
+    line_end(s, at)
+}
+
+// Reads a record of Zasspoje as `read_on` does.
+fn read_zasspoje(
+    s: &[u8],
+    start: usize,
+    n: usize,
+    class: &[u8; 256],
+    places: &mut [usize; 14],
+) -> usize
+    requires { ⌜ (start ≤ length (now s)) × Classes (now class) ⌝ }
+    ensures { λ r. ⌜ ((r ≡ 0 → ⊥) → ReadTo 8 n (now (s .entry)) start (now (places .exit)) r) ⌝ }
+{
+    if n != 10 {
+        return 0;
+    }
+    let at = line_and_number(8, 10, s, start, places);
+    if at == 0 {
+        return 0;
+    }
+    let at = number_on(8, 2, 10, s, start, at, 1, 9, places);
+    if at == 0 {
+        return 0;
+    }
+    let at = number_on(8, 3, 10, s, start, at, 1, 9, places);
+    if at == 0 {
+        return 0;
+    }
+    let at = text_on(8, 4, 10, s, start, at, 0, 48, class, places);
+    if at == 0 {
+        return 0;
+    }
+    zasspoje_rest(s, start, at, places)
+}
+
+// Reads a record of Udaje or of Mistenky, a line, a number and a text, as `read_on` does.
+fn read_note(
     file: u64,
     s: &[u8],
     start: usize,
     n: usize,
     class: &[u8; 256],
-    places: &mut [usize],
+    places: &mut [usize; 14],
 ) -> usize
-    requires { ⌜ (start ≤ length (now s)) × (1 ≤ n) × (n ≤ 13) × (length (now places) ≡ 14) × Classes (now class) ⌝ }
+    requires { ⌜ (start ≤ length (now s)) × LineFirst file × (kindOf file 3 ≡ Kind.Text 1 254) × Classes (now class) ⌝ }
     ensures { λ r. ⌜ ((r ≡ 0 → ⊥) → ReadTo file n (now (s .entry)) start (now (places .exit)) r) ⌝ }
 {
-    let mut at = start;
-    let mut f = 0;
-    places[0] = start + 1;
-    while f < n {
-        f += 1;
-        let close = field_end(file, f as u64, s, at, class);
-        if close == 0 {
-            return 0;
-        }
-        if !stands(s, close, follower_of(f, n)) {
-            return 0;
-        }
-        at = close + 1;
-        places[f] = at + 1;
+    if n != 3 {
+        return 0;
+    }
+    let at = line_and_number(file, 3, s, start, places);
+    if at == 0 {
+        return 0;
+    }
+    let at = text_on(file, 2, 3, s, start, at, 1, 254, class, places);
+    if at == 0 {
+        return 0;
     }
     line_end(s, at)
 }
 
-// The same, for the fourteen places of a record.
-fn read_on(
+// Reads what is behind the first four fields of a record of Caskody, due at this place.
+fn caskody_rest(
+    s: &[u8],
+    start: usize,
+    from: usize,
+    class: &[u8; 256],
+    places: &mut [usize; 14],
+) -> usize
+    requires { ⌜ Due 10 8 (now s) start (now places) 4 from × Classes (now class) ⌝ }
+    ensures { λ r. ⌜ ((r ≡ 0 → ⊥) → ReadTo 10 8 (now (s .entry)) start (now (places .exit)) r) ⌝ }
+{
+    let at = maybe_on(10, 4, 8, s, start, from, Kind::CodeType, class, places);
+    if at == 0 {
+        return 0;
+    }
+    let at = maybe_on(10, 5, 8, s, start, at, Kind::MaybeDate, class, places);
+    if at == 0 {
+        return 0;
+    }
+    let at = maybe_on(10, 6, 8, s, start, at, Kind::MaybeDate, class, places);
+    if at == 0 {
+        return 0;
+    }
+    let at = text_on(10, 7, 8, s, start, at, 0, 254, class, places);
+    if at == 0 {
+        return 0;
+    }
+    line_end(s, at)
+}
+
+// Reads a record of Caskody as `read_on` does.
+fn read_caskody(
+    s: &[u8],
+    start: usize,
+    n: usize,
+    class: &[u8; 256],
+    places: &mut [usize; 14],
+) -> usize
+    requires { ⌜ (start ≤ length (now s)) × Classes (now class) ⌝ }
+    ensures { λ r. ⌜ ((r ≡ 0 → ⊥) → ReadTo 10 n (now (s .entry)) start (now (places .exit)) r) ⌝ }
+{
+    if n != 8 {
+        return 0;
+    }
+    let at = line_and_number(10, 8, s, start, places);
+    if at == 0 {
+        return 0;
+    }
+    let at = number_on(10, 2, 8, s, start, at, 1, 9, places);
+    if at == 0 {
+        return 0;
+    }
+    let at = text_on(10, 3, 8, s, start, at, 1, 2, class, places);
+    if at == 0 {
+        return 0;
+    }
+    caskody_rest(s, start, at, class, places)
+}
+
+// Reads what is behind the first ten fields of a record of Altdop, due at this place.
+fn altdop_rest(
+    s: &[u8],
+    start: usize,
+    from: usize,
+    class: &[u8; 256],
+    places: &mut [usize; 14],
+) -> usize
+    requires { ⌜ Due 11 13 (now s) start (now places) 10 from × Classes (now class) ⌝ }
+    ensures { λ r. ⌜ ((r ≡ 0 → ⊥) → ReadTo 11 13 (now (s .entry)) start (now (places .exit)) r) ⌝ }
+{
+    let at = text_on(11, 10, 13, s, start, from, 0, 254, class, places);
+    if at == 0 {
+        return 0;
+    }
+    let at = maybe_on(11, 11, 13, s, start, at, Kind::MaybeDate, class, places);
+    if at == 0 {
+        return 0;
+    }
+    let at = maybe_on(11, 12, 13, s, start, at, Kind::MaybeDate, class, places);
+    if at == 0 {
+        return 0;
+    }
+    line_end(s, at)
+}
+
+// Reads a record of Altdop as `read_on` does.
+fn read_altdop(
+    s: &[u8],
+    start: usize,
+    n: usize,
+    class: &[u8; 256],
+    places: &mut [usize; 14],
+) -> usize
+    requires { ⌜ (start ≤ length (now s)) × Classes (now class) ⌝ }
+    ensures { λ r. ⌜ ((r ≡ 0 → ⊥) → ReadTo 11 n (now (s .entry)) start (now (places .exit)) r) ⌝ }
+{
+    if n != 13 {
+        return 0;
+    }
+    let at = line_and_number(11, 13, s, start, places);
+    if at == 0 {
+        return 0;
+    }
+    let at = number_on(11, 2, 13, s, start, at, 8, 8, places);
+    if at == 0 {
+        return 0;
+    }
+    let at = codes_on(11, 3, 9, 13, s, start, at, places);
+    if at == 0 {
+        return 0;
+    }
+    let at = maybe_on(11, 9, 13, s, start, at, Kind::WeekType, class, places);
+    if at == 0 {
+        return 0;
+    }
+    altdop_rest(s, start, at, class, places)
+}
+
+// Reads a record of any file as `read_on` does.
+fn read_any(
     file: u64,
     s: &[u8],
     start: usize,
@@ -165,7 +363,41 @@ fn read_on(
     requires { ⌜ (start ≤ length (now s)) × (1 ≤ n) × (n ≤ 13) × Classes (now class) ⌝ }
     ensures { λ r. ⌜ ((r ≡ 0 → ⊥) → ReadTo file n (now (s .entry)) start (now (places .exit)) r) ⌝ }
 {
-    read_record(file, s, start, n, class, places)
+    let mut at = begin(file, n, s, start, places);
+    let mut f = 0;
+    while f < n {
+        at = any_on(file, f, n, s, start, at, class, places);
+        if at == 0 {
+            return 0;
+        }
+        f += 1;
+    }
+    line_end(s, at)
+}
+
+// inner: reads the record that starts at this place, and marks its texts' places as `walk::cut` does. Answers where the next record starts.
+pub fn read_on(
+    file: u64,
+    s: &[u8],
+    start: usize,
+    n: usize,
+    class: &[u8; 256],
+    places: &mut [usize; 14],
+) -> usize
+    requires { ⌜ (start ≤ length (now s)) × (1 ≤ n) × (n ≤ 13) × Classes (now class) ⌝ }
+    ensures { λ r. ⌜ ((r ≡ 0 → ⊥) → ReadTo file n (now (s .entry)) start (now (places .exit)) r) ⌝ }
+{
+    match file {
+        2 => read_zastavky(s, start, n, class, places),
+        6 => read_spoje(s, start, n, places),
+        7 => read_zaslinky(s, start, n, class, places),
+        8 => read_zasspoje(s, start, n, class, places),
+        9 => read_note(9, s, start, n, class, places),
+        10 => read_caskody(s, start, n, class, places),
+        11 => read_altdop(s, start, n, class, places),
+        13 => read_note(13, s, start, n, class, places),
+        _ => read_any(file, s, start, n, class, places),
+    }
 }
 
 // inner: whether the file, whose records have n fields, is legal and its records have no fault.

@@ -6,7 +6,8 @@ use borrow.Author.Tests.{not-false}
 use denote.Ref.{now}
 use Rattle.laws.specs.Tests.{never}
 use Rattle.thirteen.specs.Batch.{Batch, thirteen}
-use Rattle.alone.proofs.SoundLaws.{SoundBehind, sound-more, fielded, sound-file}
+use Rattle.sweep.proofs.SoundLaws.{fielded}
+use Rattle.alone.proofs.SoundLaws.{SoundBehind, sound-more, sound-file}
 use Rattle.alone.proofs.are_sound.Statement.{statement}
 use Rattle.alone.proofs.are_sound.Tie as tie
 

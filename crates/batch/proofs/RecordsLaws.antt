@@ -24,11 +24,20 @@ use Rattle.trips.specs.Plain.{plainFrom}
 use Rattle.trips.proofs.PlainLaws.{plain-trips}
 use Rattle.trips.proofs.ReadyLaws.{ready-file}
 use Rattle.fault.specs.Answers.{numberedFault}
-use Rattle.alone.specs.Order.{firstFault}
-use Rattle.batch.specs.Order.{stages}
+use Rattle.alone.specs.Order.{firstFault, fileStages}
+use Rattle.batch.specs.Order.{stages, faultOf}
 use Rattle.fault.specs.declared.Fault.{Fault}
 use Rattle.batch.proofs.AcceptedLaws.{no-links}
-use Rattle.alone.proofs.OrderLaws.{is-some, is-zero, first-one}
+use Rattle.smooth.specs.Smooth.{Smooth}
+use Rattle.smooth.proofs.SmoothLaws.{smooth-stages, smooth-sound, smooth-links}
+use Rattle.alone.proofs.OrderLaws.{is-some, is-zero, first-one, first-past}
+
+-- where links are met, the trips' fault is that of the stages behind 6
+trips-left : (b : Batch) → linksFault b ≡ answered [] → (g : Fault) → numberedFault g ≡ tripsFault b → numberedFault g ≡ firstFault (drop 4 (stages b))
+unfolding stages firstFault
+trips-left b e g i =
+    let z : linksFault b .number ≡ 0 = ap (λ (a : Numbered). a .number) e in
+    first-one g (tripsFault b) i ∙ rw (eq-eqb (linksFault b .number) 0 z)
 
 module _ (b : Batch) (f : Fault) (e : numberedFault f ≡ linksFault b) (t : Bool) (d : t ≡ eqb (numberedFault f .number) 0) where
   -- 7, 8 or 9 is found
@@ -44,10 +53,13 @@ module _ (b : Batch) (f : Fault) (e : numberedFault f ≡ linksFault b) (t : Boo
 
   -- and the trips' fault is that of the rest
   pub links-past : not t ≡ false → (g : Fault) → numberedFault g ≡ tripsFault b → numberedFault g ≡ firstFault (drop 4 (stages b))
-  unfolding stages firstFault
-  links-past h g i =
-      let z : linksFault b .number ≡ 0 = ap (λ (a : Numbered). a .number) (links-none h) in
-      first-one g (tripsFault b) i ∙ rw (eq-eqb (linksFault b .number) 0 z)
+  links-past h g i = trips-left b (links-none h) g i
+
+-- nor does any stage before the trips find anything in a batch that is gone through once
+pub smooth-past : (b : Batch) (order ways : List ℕ) → Smooth b order ways → (g : Fault) → numberedFault g ≡ tripsFault b → numberedFault g ≡ faultOf b
+unfolding faultOf stages fileStages
+smooth-past b order ways s g i =
+    trips-left b (smooth-links b order ways s) g i ∙ sym (first-past 4 (stages b) (ap (λ (a : Numbered). a .number) (smooth-stages b order ways s)))
 
 -- what the stage of trips asks of its files
 pub record FilesReady (b : Batch) (order ways : List ℕ) : Type 0 where
@@ -65,6 +77,11 @@ files-ready b order ways s e w h =
       stops = ready-file b 8 order ways (omega arith, omega arith) s (l .trip-stops-key) w h;
       times = ready-file b 10 order ways (omega arith, omega arith) s (l .time-codes-key) w h;
     }
+
+-- in a batch that is gone through once they are ready, by ways that keep the length that was lent
+pub smooth-ready : (b : Batch) (order old ways : List ℕ) → Smooth b order ways → length ways ≡ length old → 33 ≤ length old → FilesReady b order ways
+smooth-ready b order old ways s e h =
+    files-ready b order ways (smooth-sound b order ways s) (smooth-links b order ways s) (s .routes) (omega arith)
 
 -- what the code finds is document 01's
 pub trips-are : (b : Batch) → linksFault b ≡ answered [] → plainFrom (recordsOf b 3) (recordsOf b 8) (recordsOf b 10) 1 (recordsOf b 6) ≡ tripsFault b

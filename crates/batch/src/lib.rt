@@ -9,6 +9,7 @@ use lookup::survey;
 use outcome::Verdict;
 use recordfaults::linked_fault;
 use recordfaults::timed_fault;
+use smooth::all_pass;
 use trips::trips_fault;
 ghost use mathlib.Core.Path.{_≡_};
 ghost use mathlib.Core.List.{[]};
@@ -70,8 +71,8 @@ fn check_records<'a>(
     timed_fault(trips_fault(f3, f6, f8, f10, order, ways, class))
 }
 
-// inner: the first fault of a batch, and, where there is none, the ways to its records
-pub fn check_with<'a>(
+// The first fault of a batch stage by stage, and, where there is none, the ways to its records.
+fn check_in_order<'a>(
     f1: &'a [u8],
     f2: &'a [u8],
     f3: &'a [u8],
@@ -114,6 +115,69 @@ pub fn check_with<'a>(
         ways,
     );
     check_records(
+        f1,
+        f2,
+        f3,
+        f4,
+        f5,
+        f6,
+        f7,
+        f8,
+        f9,
+        f10,
+        f11,
+        f12,
+        f13,
+        order,
+        ways,
+        class,
+    )
+}
+
+// inner: the first fault of a batch, and, where there is none, the ways to its records. A batch whose keys rise and in which 1 to 9 find nothing is
+// gone through once.
+pub fn check_with<'a>(
+    f1: &'a [u8],
+    f2: &'a [u8],
+    f3: &'a [u8],
+    f4: &'a [u8],
+    f5: &'a [u8],
+    f6: &'a [u8],
+    f7: &'a [u8],
+    f8: &'a [u8],
+    f9: &'a [u8],
+    f10: &'a [u8],
+    f11: &'a [u8],
+    f12: &'a [u8],
+    f13: &'a [u8],
+    order: &[u32],
+    ways: &mut [usize],
+    class: &[u8; 256],
+) -> Fault
+    requires { ⌜ (33 ≤ length (now ways)) × Classes (now class) ⌝ }
+    ensures { λ r. ⌜ (numberedFault r ≡ faultOf (thirteen (now (f1 .entry)) (now (f2 .entry)) (now (f3 .entry)) (now (f4 .entry)) (now (f5 .entry)) (now (f6 .entry)) (now (f7 .entry)) (now (f8 .entry)) (now (f9 .entry)) (now (f10 .entry)) (now (f11 .entry)) (now (f12 .entry)) (now (f13 .entry)))) × (faultOf (thirteen (now (f1 .entry)) (now (f2 .entry)) (now (f3 .entry)) (now (f4 .entry)) (now (f5 .entry)) (now (f6 .entry)) (now (f7 .entry)) (now (f8 .entry)) (now (f9 .entry)) (now (f10 .entry)) (now (f11 .entry)) (now (f12 .entry)) (now (f13 .entry))) ≡ answered [] → Ways (thirteen (now (f1 .entry)) (now (f2 .entry)) (now (f3 .entry)) (now (f4 .entry)) (now (f5 .entry)) (now (f6 .entry)) (now (f7 .entry)) (now (f8 .entry)) (now (f9 .entry)) (now (f10 .entry)) (now (f11 .entry)) (now (f12 .entry)) (now (f13 .entry))) (now (order .entry)) (now (ways .exit))) ⌝ }
+{
+    if all_pass(
+        f1,
+        f2,
+        f3,
+        f4,
+        f5,
+        f6,
+        f7,
+        f8,
+        f9,
+        f10,
+        f11,
+        f12,
+        f13,
+        order,
+        ways,
+        class,
+    ) {
+        return timed_fault(trips_fault(f3, f6, f8, f10, order, ways, class));
+    }
+    check_in_order(
         f1,
         f2,
         f3,

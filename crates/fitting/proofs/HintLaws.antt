@@ -61,11 +61,11 @@ nth file s l i h =
           (λ t. absurd (omega (arith, ap length (sym (none-left n s at (ltb-false at (length s) t)) ∙ w .left))));
     }
 
--- a file whose keys are all different, with nothing wrong in the record at any place
-fit-file : (b : Batch) (file : ℕ) → IsKeyed file → LegalFrom (fieldsOf file) (fileIn b file) 0 → NoneUsed file (fileIn b file)
-    → ((x : ℕ) → PlaceIn file (fileIn b file) x → x < length (fileIn b file) → fieldAmiss b file (recordAt file (fileIn b file) x) ≡ 0)
+-- a file whose keys are all different, with nothing wrong in any record
+pub fit-records : (b : Batch) (file : ℕ) → IsKeyed file → LegalFrom (fieldsOf file) (fileIn b file) 0 → NoneUsed file (fileIn b file)
+    → ((i : ℕ) → i < length (recordsOf b file) → fieldAmiss b file (getD (recordsOf b file) i []) ≡ 0)
     → linkFault b file ≡ answered []
-fit-file b file k l once fit = clean-file b file clean
+fit-records b file k l once fit = clean-file b file clean
   where
     clean : (i : ℕ) → i < length (recordsOf b file) → Clean b file (take i (recordsOf b file)) (getD (recordsOf b file) i [])
     clean i h =
@@ -73,8 +73,18 @@ fit-file b file k l once fit = clean-file b file clean
         let past = take i (recordsOf b file) in
         let r = getD (recordsOf b file) i [] in
         let u = rw (q .past, q .here) at (once _ (q .place) (q .more)) in
-        let f : fieldAmiss b file r ≡ 0 = rw (q .here) at (fit _ (q .place) (q .more)) in
-        (key-used file past r k ∙ u, fields-none b file r f)
+        (key-used file past r k ∙ u, fields-none b file r (fit i h))
+
+-- or in the record at any place
+fit-file : (b : Batch) (file : ℕ) → IsKeyed file → LegalFrom (fieldsOf file) (fileIn b file) 0 → NoneUsed file (fileIn b file)
+    → ((x : ℕ) → PlaceIn file (fileIn b file) x → x < length (fileIn b file) → fieldAmiss b file (recordAt file (fileIn b file) x) ≡ 0)
+    → linkFault b file ≡ answered []
+fit-file b file k l once fit =
+    fit-records b file k l once
+    (λ i h.
+    let q = nth file (fileIn b file) l i h in
+    let f : fieldAmiss b file (getD (recordsOf b file) i []) ≡ 0 = rw (q .here) at (fit _ (q .place) (q .more)) in
+    f)
 
 -- what is known of a file that is gone through by its index
 pub record Hinted (b : Batch) (file : ℕ) (s part : List ℕ) : Type 0 where

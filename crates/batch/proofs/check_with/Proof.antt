@@ -1,74 +1,50 @@
--- `batch::check_with` meets its contract: 1 to 6 come first, and where they find nothing the files are sound, so that the ways can be made out and
--- the records asked.
-use mathlib.Core.Path.{_≡_, sym, ap, _∙_}
-use mathlib.Core.List.{[]}
-use native.Mathlib.Omega.{arith}
+-- `batch::check_with` meets its contract: where all files pass, nothing stands before the trips; else the stages tell.
+use mathlib.Core.Path.{_∙_}
 use borrow.Author.Needs.{needs}
 use denote.Ref.{now}
-use Rattle.laws.specs.Numbered.{Numbered, answered}
-use Rattle.links.proofs.KeyedLaws.{sound-keys}
-use Rattle.amiss.specs.Sound.{SoundFiles}
-use Rattle.thirteen.specs.Batch.{Batch, thirteen}
-use Rattle.alone.specs.Order.{fileStages}
-use Rattle.batch.specs.Order.{stages, faultOf}
-use Rattle.alone.proofs.FileLaws.{legal-files}
-use Rattle.batch.proofs.SoundLaws.{sound-files}
-use Rattle.alone.proofs.OrderLaws.{is-some, stages-stop, stages-past, stages-zero}
+use Rattle.thirteen.specs.Batch.{Batch, thirteen, fileIn}
+use Rattle.smooth.proofs.SmoothLaws.{smooth-links}
+use Rattle.batch.proofs.RecordsLaws.{smooth-past, smooth-ready, trips-are}
 use Rattle.batch.proofs.check_with.Statement.{statement}
 use Rattle.batch.proofs.check_with.Tie as tie
 
 -- how the function began, and the batch that was lent
-abbrev begin : tie.After-check-files → tie.Start
-begin c = c .before .before .before .before .before .before .before .before .before .before .before .before .before .before .before .before
+abbrev begin : tie.After-all-pass → tie.Start
+begin c = c .before .before .before .before .before .before .before .before .before .before .before .before .before .before .before .before .before
 
 abbrev files : tie.Start → Batch
 files c = let a = c .args in thirteen (now (a .f1)) (now (a .f2)) (now (a .f3)) (now (a .f4)) (now (a .f5)) (now (a .f6)) (now (a .f7)) (now (a .f8)) (now (a .f9)) (now (a .f10)) (now (a .f11)) (now (a .f12)) (now (a .f13))
 
+trips-fault-requires : tie.Need-trips-fault-requires
+unfolding fileIn
+trips-fault-requires c κs =
+    let t = c .before in
+    let x = t .before .before .before in
+    let start = begin x in
+    let r = smooth-ready (files start) (now (start .args .order)) (now (start .args .ways)) _ (x .all-pass .ensures (t .if1 .taken)) (x .all-pass .kept .1 .1 .1 .1 .1 .1 .1 .1 .1 .1 .1 .1 .1 .1 .0) (start .pre .0) in
+    (r .codes, r .trips, r .stops, r .times, start .pre .1)
+
 returns : tie.Need-returns
-unfolding faultOf stages fileStages
+unfolding fileIn
 returns c =
-    let i = c .before in
-    let p = i .before in
-    let e = stages-stop _ _ (i .is-none .ensures) 4 (stages (files (begin p))) (p .check-files .ensures) (c .if1 .taken) in
-    (e, λ z. absurd (is-some _ _ (i .is-none .ensures) (c .if1 .taken) (ap (λ (a : Numbered). a .number) (e ∙ z))))
-
--- behind 6 the files are sound
-sound : (c : tie.Else1) → SoundFiles (files (begin (c .before .before)))
-unfolding stages fileStages
-sound c =
-    let i = c .before in
-    let p = i .before in
-    let b = files (begin p) in
-    let z = stages-zero _ _ (i .is-none .ensures) 4 (stages b) (p .check-files .ensures) (c .if1 .left) in
-    sound-files b (legal-files b (z 1 (omega arith))) (z 3 (omega arith))
-
-survey-requires : tie.Need-survey-requires
-survey-requires c κs = (begin (c .before .before .before) .pre .0, sound-keys _ (sound (c .before)))
-
-check-records-requires : tie.Need-check-records-requires
-check-records-requires c κs =
-    let x = c .before .before .before in
-    let e = x .before .before in
-    let p = begin (e .before .before) .pre in
-    (sound e, omega (arith, x .survey .kept .1 .1 .1 .1 .1 .1 .1 .1 .1 .1 .1 .1 .1 .1 .0, p .0), x .survey .ensures, p .1)
-
-returns-2 : tie.Need-returns-2
-unfolding faultOf stages fileStages
-returns-2 c =
-    let x = c .before .before .before .before in
-    let e = x .before .before in
-    let i = e .before in
-    let p = i .before in
-    (c .check-records .ensures ∙ sym (stages-past _ _ (i .is-none .ensures) 4 (stages (files (begin p))) (p .check-files .ensures) (e .if1 .left)), λ z. x .survey .ensures)
+    let u = c .before in
+    let t = u .before .before in
+    let x = t .before .before .before in
+    let start = begin x in
+    let d = files start in
+    let order = now (start .args .order) in
+    let s = x .all-pass .ensures (t .if1 .taken) in
+    (smooth-past d order _ s _ (c .timed-fault .ensures ∙ u .trips-fault .ensures ∙ trips-are d (smooth-links d order _ s)), λ e. s .routes)
 
 pub check-with-spec : {M : Type 1} → statement M
 check-with-spec =
     tie.close
     (tie.spec
-    (λ c κs. search needs)  -- check-files-requires
-    (λ c κs. search needs)  -- is-none-requires
-    returns
-    survey-requires
-    check-records-requires
+    (λ c κs. search needs)  -- all-pass-requires
+    trips-fault-requires
+    (λ c κs. search needs)  -- timed-fault-requires
     (λ c. search needs)  -- same-length
-    returns-2)
+    returns
+    (λ c κs. search needs)  -- check-in-order-requires
+    (λ c. search needs)  -- same-length-2
+    (λ c. search needs))  -- returns-2

@@ -22,7 +22,7 @@ use Rattle.link.specs.Stage.{amiss, firstAmiss, fieldAmiss}
 use Rattle.link.proofs.MatchLaws.{free-behind, links-few}
 use Rattle.amiss.proofs.AmissLaws.{free-amiss}
 use Rattle.thirteen.specs.Batch.{Batch}
-use Rattle.recall.specs.Recall.{FreeBefore}
+use Rattle.tags.specs.Tags.{FreeBefore}
 
 -- The fields of a record from f on, of n in all.
 module _ (b : Batch) (file : ℕ) (r : Fields) (f n : ℕ) where

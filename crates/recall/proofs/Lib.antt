@@ -1,3 +1,2 @@
-pub mod TagLaws
 pub mod FieldLaws
 pub mod RecallLaws

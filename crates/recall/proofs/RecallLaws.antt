@@ -13,8 +13,9 @@ use Rattle.file.specs.Format.{Fields}
 use Rattle.keys.specs.Keys.{none}
 use Rattle.link.specs.Stage.{amiss}
 use Rattle.thirteen.specs.Batch.{Batch}
-use Rattle.recall.specs.Recall.{tag, fine, Holds, Recalls, Tagged}
-use Rattle.recall.proofs.TagLaws.{tag-kind}
+use Rattle.tags.specs.Tags.{fine, Tagged}
+use Rattle.tags.proofs.TagLaws.{tag-kind}
+use Rattle.recall.specs.Recall.{Holds, Recalls}
 
 -- 0 is the tag of nothing
 zero-holds : (b : Batch) → Holds b 0

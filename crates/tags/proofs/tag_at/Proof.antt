@@ -1,4 +1,4 @@
--- `recall::tag_at` meets its contract: a field that is empty asks for nothing.
+-- `tags::tag_at` meets its contract: a field that is empty asks for nothing.
 use mathlib.Core.Path.{_≡_, sym, ap, _∙_}
 use mathlib.Core.Bool.{true}
 use Prim.Native.Nat.{_-_}
@@ -14,9 +14,9 @@ use Rattle.field.specs.Values.{isEmpty}
 use Rattle.walk.proofs.WalkLaws.{cut-size}
 use Rattle.rules.specs.Texts.{texts}
 use Rattle.rules.proofs.KindLaws.{text-at}
-use Rattle.recall.proofs.TagLaws.{none-tagged}
-use Rattle.recall.proofs.tag_at.Statement.{statement}
-use Rattle.recall.proofs.tag_at.Tie as tie
+use Rattle.tags.proofs.TagLaws.{none-tagged}
+use Rattle.tags.proofs.tag_at.Statement.{statement}
+use Rattle.tags.proofs.tag_at.Tie as tie
 
 -- the record, and the text of the field
 abbrev cutTexts : tie.Start → Fields

@@ -1,4 +1,4 @@
--- `recall::seat_tag` meets its contract: trip 0 asks for nothing, and any other for the trip of that line.
+-- `tags::seat_tag` meets its contract: trip 0 asks for nothing, and any other for the trip of that line.
 use mathlib.Core.Path.{_≡_, refl, sym, ap, _∙_}
 use Prim.Native.Nat.{ℕ, _<_}
 use borrow.Author.Needs.{needs}
@@ -8,10 +8,10 @@ use Rattle.field.specs.Names.{field}
 use Rattle.field.specs.Values.{value}
 use Rattle.keys.specs.Keys.{none}
 use Rattle.rules.specs.Texts.{texts}
-use Rattle.recall.specs.Recall.{tag}
-use Rattle.recall.proofs.TagLaws.{seat-tagged, no-seat-tagged}
-use Rattle.recall.proofs.seat_tag.Statement.{statement}
-use Rattle.recall.proofs.seat_tag.Tie as tie
+use Rattle.tags.specs.Tags.{tag}
+use Rattle.tags.proofs.TagLaws.{seat-tagged, no-seat-tagged}
+use Rattle.tags.proofs.seat_tag.Statement.{statement}
+use Rattle.tags.proofs.seat_tag.Tie as tie
 
 abbrev cutTexts : tie.Start → Fields
 cutTexts c = let a = c .args in texts (a .file) (now (a .s)) (now (a .places))

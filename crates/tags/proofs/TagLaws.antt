@@ -23,7 +23,7 @@ use Rattle.link.specs.Stage.{amiss}
 use Rattle.link.specs.declared.Link.{Link}
 use Rattle.thirteen.specs.Batch.{Batch, recordsOf}
 use Rattle.amiss.proofs.AmissLaws.{unmet, unfit, one-key, two-key, free-amiss, line-amiss, stop-amiss, carrier-amiss, trip-amiss, line-stop-amiss, seat-amiss, seat-zero, seat-trip, code-empty, code-none, code-found}
-use Rattle.recall.specs.Recall.{tag, fitting, fine, Tagged}
+use Rattle.tags.specs.Tags.{tag, fitting, fine, Tagged}
 
 -- one number is the tag of one kind and one pair of numbers only
 pub tag-kind : (k a x l c y : ℕ) → a < none → x < none → c < none → y < none → tag k a x ≡ tag l c y → (k ≡ l) × (a ≡ c) × (x ≡ y)

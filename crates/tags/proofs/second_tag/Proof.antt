@@ -1,4 +1,4 @@
--- `recall::second_tag` meets its contract: where the first code is empty the second stands alone, and else beside it.
+-- `tags::second_tag` meets its contract: where the first code is empty the second stands alone, and else beside it.
 use mathlib.Core.Path.{_≡_, refl, sym, ap, _∙_}
 use mathlib.Core.Bool.{true, false}
 use Prim.Native.Nat.{ℕ, _<_}
@@ -12,10 +12,10 @@ use Rattle.field.specs.Values.{isEmpty, value}
 use Rattle.keys.specs.Keys.{none}
 use Rattle.rules.specs.Texts.{texts}
 use Rattle.amiss.proofs.RecordLaws.{Numeral, code-field, code-part, first-code}
-use Rattle.recall.specs.Recall.{tag}
-use Rattle.recall.proofs.TagLaws.{second-tagged, pair-tagged}
-use Rattle.recall.proofs.second_tag.Statement.{statement}
-use Rattle.recall.proofs.second_tag.Tie as tie
+use Rattle.tags.specs.Tags.{tag}
+use Rattle.tags.proofs.TagLaws.{second-tagged, pair-tagged}
+use Rattle.tags.proofs.second_tag.Statement.{statement}
+use Rattle.tags.proofs.second_tag.Tie as tie
 
 abbrev cutTexts : tie.Start → Fields
 cutTexts c = let a = c .args in texts 8 (now (a .s)) (now (a .places))

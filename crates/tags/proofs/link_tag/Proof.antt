@@ -1,4 +1,4 @@
--- `recall::link_tag` meets its contract: each link's fields are numbers, or a code.
+-- `tags::link_tag` meets its contract: each link's fields are numbers, or a code.
 use mathlib.Core.Path.{_≡_, refl, sym, _∙_}
 use native.Mathlib.Omega.{arith}
 use borrow.Author.Needs.{needs}
@@ -8,9 +8,9 @@ use Rattle.rules.specs.Texts.{texts}
 use Rattle.link.specs.Links.{linkOf}
 use Rattle.link.specs.declared.Link.{Link}
 use Rattle.link.proofs.KindOfLinks.{line-numeric, stop-numeric, carrier-numeric, trip-numeric, trip-or-zero-numeric, line-stop-numeric, code-kind}
-use Rattle.recall.proofs.TagLaws.{free-tagged, line-tagged, stop-tagged, carrier-tagged, trip-tagged, line-stop-tagged}
-use Rattle.recall.proofs.link_tag.Statement.{statement}
-use Rattle.recall.proofs.link_tag.Tie as tie
+use Rattle.tags.proofs.TagLaws.{free-tagged, line-tagged, stop-tagged, carrier-tagged, trip-tagged, line-stop-tagged}
+use Rattle.tags.proofs.link_tag.Statement.{statement}
+use Rattle.tags.proofs.link_tag.Tie as tie
 
 -- the start of the function, and the record
 abbrev begin : tie.After-link-of → tie.Start

@@ -1,4 +1,4 @@
--- `recall::first_link` meets its contract, file by file: one test that is computed over the fields before it.
+-- `tags::first_link` meets its contract, file by file: one test that is computed over the fields before it.
 use mathlib.Core.Path.{_≡_, refl}
 use mathlib.Core.List.{List, []}
 use Prim.Native.Nat.{ℕ, zero, suc, _+_, _≤_, _<_}
@@ -7,9 +7,9 @@ use borrow.Author.Needs.{needs}
 use Rattle.link.specs.Links.{links, linksIn, linkOf, zastavky, linky, zasspoje, caskody, altdop}
 use Rattle.link.specs.declared.Link.{Link}
 use Rattle.link.proofs.MatchLaws.{free-below}
-use Rattle.recall.specs.Recall.{FreeBefore}
-use Rattle.recall.proofs.first_link.Statement.{statement}
-use Rattle.recall.proofs.first_link.Tie as tie
+use Rattle.tags.specs.Tags.{FreeBefore}
+use Rattle.tags.proofs.first_link.Statement.{statement}
+use Rattle.tags.proofs.first_link.Tie as tie
 
 -- what is promised, of a file by the number that it was found to have
 abbrev First : ℕ → ℕ → Type 0

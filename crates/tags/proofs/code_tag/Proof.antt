@@ -1,4 +1,4 @@
--- `recall::code_tag` meets its contract: only Zasspoje's second code is compared with another.
+-- `tags::code_tag` meets its contract: only Zasspoje's second code is compared with another.
 use mathlib.Core.Path.{_≡_, refl, sym, ap, subst, _∙_}
 use mathlib.Core.Bool.{false}
 use Prim.Native.Nat.{ℕ, _<_}
@@ -14,10 +14,10 @@ use Rattle.keys.specs.Keys.{none}
 use Rattle.rules.specs.Texts.{texts, Kinded}
 use Rattle.amiss.proofs.RecordLaws.{Numeral, code-field, code-part}
 use Rattle.amiss.proofs.AmissLaws.{other-file, other-field}
-use Rattle.recall.specs.Recall.{tag, Tagged}
-use Rattle.recall.proofs.TagLaws.{code-tagged, alone-sign}
-use Rattle.recall.proofs.code_tag.Statement.{statement}
-use Rattle.recall.proofs.code_tag.Tie as tie
+use Rattle.tags.specs.Tags.{tag, Tagged}
+use Rattle.tags.proofs.TagLaws.{code-tagged, alone-sign}
+use Rattle.tags.proofs.code_tag.Statement.{statement}
+use Rattle.tags.proofs.code_tag.Tie as tie
 
 abbrev cutTexts : tie.Start → Fields
 cutTexts c = let a = c .args in texts (a .file) (now (a .s)) (now (a .places))

@@ -26,7 +26,8 @@ use Rattle.kept.proofs.TripDays.{days-exactly}
 use Rattle.kept.proofs.TripStops.{stops-exactly}
 use Rattle.kept.proofs.RuleLaws.{rule-no-pass}
 use Rattle.fault.specs.OneResult.{fault-no-values}
-use Rattle.alone.specs.Order.{lengthFault, bytesFault, versionFault, firstFault}
+use Rattle.filefaults.specs.Faults.{versionFault}
+use Rattle.alone.specs.Order.{lengthFault, bytesFault, firstFault}
 use Rattle.alone.proofs.FileLaws.{not-long}
 use Rattle.alone.proofs.OrderLaws.{first-each}
 use Rattle.batch.specs.Order.{stages, faultOf}

@@ -18,7 +18,8 @@ use Rattle.field.specs.Names.{field}
 use Rattle.keys.proofs.KeyLaws.{same-self, same-equal}
 use Rattle.thirteen.specs.Batch.{Batch, fileIn, recordsOf, overFiles}
 use Rattle.link.proofs.TableLaws.{record-length}
-use Rattle.alone.specs.Order.{lengthFault, outcomeFault, bytesFault, isVersion, versionFault}
+use Rattle.filefaults.specs.Faults.{outcomeFault, isVersion, versionFault}
+use Rattle.alone.specs.Order.{lengthFault, bytesFault}
 use Rattle.alone.proofs.FileLaws.{some-fields, short-enough}
 
 -- no fault in any of several files, from the first of them on

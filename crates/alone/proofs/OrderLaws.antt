@@ -6,45 +6,23 @@ use Prim.Native.Nat.{ℕ, zero, suc, _+_, _-_, _<_}
 use native.Mathlib.Omega.{arith}
 use lib.Dec.{eqb}
 use lib.ListN.{length, getD, take, drop}
-use borrow.Author.Tests.{eqb-true, eqb-false, not-true, not-false}
+use borrow.Author.Tests.{eqb-true, eqb-false}
 use Rattle.laws.specs.Tests.{either}
 use Rattle.laws.specs.Numbered.{Numbered, answered}
-use Rattle.file.proofs.AnswerLaws.{number-some}
 use Rattle.thirteen.specs.Batch.{overFiles}
 use Rattle.thirteen.proofs.OverLaws.{over-next, over-stop}
 use Rattle.fault.specs.Answers.{numberedFault}
-use Rattle.alone.specs.Order.{firstFault}
 use Rattle.fault.specs.declared.Fault.{Fault}
+use Rattle.fault.proofs.FaultLaws.{none-zero, is-some, is-zero}
+use Rattle.alone.specs.Order.{firstFault}
 
--- no fault but `Fault::None` has number 0
-pub none-zero : (f : Fault) → numberedFault f .number ≡ 0 → numberedFault f ≡ answered []
-unfolding numberedFault
-none-zero Fault.None e = refl
-none-zero (Fault.File why) e = absurd (number-some why e)
-none-zero (Fault.Version k f) e = absurd (omega arith)
-none-zero (Fault.Unkind file k f) e = absurd (omega arith)
-none-zero (Fault.Broken file k) e = absurd (omega arith)
-none-zero (Fault.Used file k) e = absurd (omega arith)
-none-zero (Fault.Dangling file k f) e = absurd (omega arith)
-none-zero (Fault.Misplaced file k f) e = absurd (omega arith)
-none-zero (Fault.Days k) e = absurd (omega arith)
-none-zero (Fault.Stops k) e = absurd (omega arith)
+-- the test of a file's fault: it is the first of those from its file on, or the next file's counts
+module _ (f : Fault) (r : Bool) (t : r ≡ eqb (numberedFault f .number) 0) (fault : ℕ → Numbered) (file : ℕ) (l : file < 14) (e : numberedFault f ≡ fault file) where
+  pub files-stop : not r ≡ true → numberedFault f ≡ overFiles fault file (14 - file)
+  files-stop h = e ∙ sym (over-stop fault file l (λ z. is-some f r t h (rw e z)))
 
--- what the test of a fault says of its number
-module _ (f : Fault) (r : Bool) (t : r ≡ eqb (numberedFault f .number) 0) where
-  pub is-some : not r ≡ true → numberedFault f .number ≡ 0 → ⊥
-  is-some h = eqb-false (numberedFault f .number) 0 (sym t ∙ not-true r h)
-
-  pub is-zero : not r ≡ false → numberedFault f .number ≡ 0
-  is-zero h = eqb-true (numberedFault f .number) 0 (sym t ∙ not-false r h)
-
-  -- of a file's fault: it is the first of those from its file on, or the next file's counts
-  module _ (fault : ℕ → Numbered) (file : ℕ) (l : file < 14) (e : numberedFault f ≡ fault file) where
-    pub files-stop : not r ≡ true → numberedFault f ≡ overFiles fault file (14 - file)
-    files-stop h = e ∙ sym (over-stop fault file l (λ z. is-some h (rw e z)))
-
-    pub files-next : not r ≡ false → overFiles fault file (14 - file) ≡ overFiles fault (file + 1) (14 - (file + 1))
-    files-next h = over-next fault file l (rw e at (is-zero h))
+  pub files-next : not r ≡ false → overFiles fault file (14 - file) ≡ overFiles fault (file + 1) (14 - (file + 1))
+  files-next h = over-next fault file l (rw e at (is-zero f r t h))
 
 -- the first of several faults: where that of the first n has number 0, the others count, else it is that of all
 pub first-past : (n : ℕ) (xs : List Numbered) → firstFault (take n xs) .number ≡ 0 → firstFault xs ≡ firstFault (drop n xs)

@@ -11,8 +11,10 @@ use Rattle.field.specs.Stage.{fieldFault}
 use Rattle.thirteen.specs.Batch.{Batch, fileIn, recordsOf, overFiles}
 use Rattle.walk.specs.Walk.{LegalFrom}
 use Rattle.sweep.specs.Sweep.{SoundFrom}
-use Rattle.alone.specs.Order.{lengthFault, outcomeFault, bytesFault, versionFault, firstFault, fileStages}
-use Rattle.alone.specs.Sound.{RightVersion, SoundFile, SoundFiles}
+use Rattle.filefaults.specs.Faults.{outcomeFault, versionFault}
+use Rattle.filefaults.specs.Version.{RightVersion}
+use Rattle.alone.specs.Order.{lengthFault, bytesFault, firstFault, fileStages}
+use Rattle.alone.specs.Sound.{SoundFile, SoundFiles}
 use Rattle.alone.proofs.FileLaws.{short-enough}
 
 -- the file that was chosen by its number is sound

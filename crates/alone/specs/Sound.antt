@@ -1,21 +1,10 @@
 -- What the sweep over the files sees: none of them has a fault of its own.
 use Prim.Native.Nat.{ℕ, _≤_}
-use mathlib.Core.Path.{_≡_}
-use mathlib.Core.List.{List, []}
+use mathlib.Core.List.{List}
 use lib.ListN.{length}
-use Rattle.laws.specs.Numbered.{answered}
 use Rattle.file.specs.Files.{fieldsOf, longest}
-use Rattle.file.specs.Records.{recordsIn}
-use Rattle.walk.specs.Walk.{LegalFrom}
 use Rattle.sweep.specs.Sweep.{SoundFrom}
 use Rattle.thirteen.specs.Batch.{Batch, fileIn}
-use Rattle.alone.specs.Order.{versionFault}
-
--- VerzeJDF is not too long, legal, and one record `1.8`
-pub record RightVersion (s : List ℕ) : Type 0 where
-  pub short : length s ≤ longest
-  pub legal : LegalFrom 1 s 0
-  pub right : versionFault (recordsIn 1 s) ≡ answered []
 
 -- a file is not too long, legal, and its records have no fault
 pub record SoundFile (file : ℕ) (s : List ℕ) : Type 0 where

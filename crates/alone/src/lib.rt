@@ -1,34 +1,28 @@
 // What each file of a batch is by itself, in document 01's order: 1 over all files, 2 and 3 over all files, 4, then 5 and 6.
 use fault::Fault;
 use fault::is_none;
-use fields::Checked;
 use fields::first_fault;
-use file::Outcome;
 use file::Refusal;
-use file::classes;
 use file::fields_of;
+use filefaults::LONGEST;
+use filefaults::checked_fault;
+use filefaults::is_right_version;
+use filefaults::outcome_fault;
+use filefaults::version_fault;
 use scanner::read;
 use sweep::is_sound;
 use thirteen::file_of;
-use walk::cut;
-use walk::part;
 ghost use mathlib.Core.Path.{_≡_};
 ghost use mathlib.Core.Bool.{true};
 ghost use mathlib.Core.List.{[]};
 ghost use lib.ListN.{take};
 ghost use Rattle.laws.specs.Numbered.{answered};
-ghost use Rattle.file.specs.Records.{recordsIn};
 ghost use Rattle.field.specs.Stage.{fieldFault};
-ghost use Rattle.fields.specs.Check.{numberedChecked};
 ghost use Rattle.thirteen.specs.Batch.{thirteen, recordsOf, overFiles};
-ghost use Rattle.walk.specs.Walk.{LegalFrom};
 ghost use Rattle.fault.specs.Answers.{numberedFault};
 ghost use Rattle.alone.specs.Legal.{LegalFiles};
-ghost use Rattle.alone.specs.Sound.{RightVersion, SoundFiles};
-ghost use Rattle.alone.specs.Order.{lengthFault, bytesFault, isVersion, outcomeFault, versionFault, firstFault, fileStages};
-
-// The greatest length of a file.
-const LONGEST: usize = 16_777_215;
+ghost use Rattle.alone.specs.Sound.{SoundFiles};
+ghost use Rattle.alone.specs.Order.{lengthFault, bytesFault, firstFault, fileStages};
 
 // inner: the first file that is too long, refusal 1
 pub fn first_long<'a>(
@@ -59,17 +53,6 @@ pub fn first_long<'a>(
     Fault::None
 }
 
-// What the reading of a file came to, as a fault.
-fn outcome_fault(file: u64, o: Outcome) -> Fault
-    ensures { λ r. ⌜ numberedFault r ≡ outcomeFault file o ⌝ }
-{
-    match o {
-        Outcome::Whole(_) => Fault::None,
-        Outcome::Unfit(at) => Fault::File(Refusal::Unfit(file, at as u64)),
-        Outcome::CutShort(at) => Fault::File(Refusal::CutShort(file, at as u64)),
-    }
-}
-
 // 2 and 3: the first file that isn't legal.
 fn first_unread<'a>(
     f1: &'a [u8],
@@ -98,54 +81,6 @@ fn first_unread<'a>(
         file += 1;
     }
     Fault::None
-}
-
-// The text `1.8`.
-fn is_version(t: &[u8]) -> bool
-    ensures { λ r. ⌜ r ≡ isVersion (now (t .entry)) ⌝ }
-{
-    if t.len() != 3 {
-        return false;
-    }
-    if t[0] != b'1' {
-        return false;
-    }
-    if t[1] != b'.' {
-        return false;
-    }
-    t[2] == b'8'
-}
-
-// 4: VerzeJDF, legal, is one record `1.8`.
-fn version_fault(s: &[u8]) -> Fault
-    requires { ⌜ LegalFrom 1 (now s) 0 ⌝ }
-    ensures { λ r. ⌜ numberedFault r ≡ versionFault (recordsIn 1 (now (s .entry))) ⌝ }
-{
-    if s.len() == 0 {
-        return Fault::Version(0, 0);
-    }
-    let class = classes();
-    let mut places: [usize; 14] = [0; 14];
-    let next = cut(s, 0, 1, &class, &mut places);
-    if next < s.len() {
-        return Fault::Version(0, 0);
-    }
-    if is_version(part(s, &places, 0)) {
-        return Fault::None;
-    }
-    Fault::Version(1, 1)
-}
-
-// The first fault inside one file, as a fault of the batch.
-fn checked_fault(c: Checked) -> Fault
-    ensures { λ r. ⌜ numberedFault r ≡ numberedChecked c ⌝ }
-{
-    match c {
-        Checked::Sound => Fault::None,
-        Checked::Refused(why) => Fault::File(why),
-        Checked::Unkind(file, k, f) => Fault::Unkind(file, k, f),
-        Checked::Broken(file, k) => Fault::Broken(file, k),
-    }
 }
 
 // 5 and 6: the first fault inside one of the files 2-13.
@@ -231,20 +166,6 @@ fn check_stages<'a>(
         return second;
     }
     first_unsound(f1, f2, f3, f4, f5, f6, f7, f8, f9, f10, f11, f12, f13)
-}
-
-// inner: whether VerzeJDF has none of 1 to 4
-pub fn is_right_version(s: &[u8]) -> bool
-    ensures { λ r. ⌜ (r ≡ true → RightVersion (now (s .entry))) ⌝ }
-{
-    if s.len() > LONGEST {
-        return false;
-    }
-    let fault = outcome_fault(1, read(s, 1));
-    if !is_none(fault) {
-        return false;
-    }
-    is_none(version_fault(s))
 }
 
 // Whether the files 2-13 have none of 1 to 6, each read once.

@@ -30,7 +30,8 @@ use Rattle.fault.specs.declared.Fault.{Fault}
 use Rattle.batch.proofs.AcceptedLaws.{no-links}
 use Rattle.smooth.specs.Smooth.{Smooth}
 use Rattle.smooth.proofs.SmoothLaws.{smooth-stages, smooth-sound, smooth-links}
-use Rattle.alone.proofs.OrderLaws.{is-some, is-zero, first-one, first-past}
+use Rattle.fault.proofs.FaultLaws.{is-some, is-zero}
+use Rattle.alone.proofs.OrderLaws.{first-one, first-past}
 
 -- where links are met, the trips' fault is that of the stages behind 6
 trips-left : (b : Batch) → linksFault b ≡ answered [] → (g : Fault) → numberedFault g ≡ tripsFault b → numberedFault g ≡ firstFault (drop 4 (stages b))

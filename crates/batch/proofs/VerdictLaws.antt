@@ -11,7 +11,7 @@ use Rattle.links.proofs.KeyedLaws.{sound-keys}
 use Rattle.thirteen.specs.Batch.{Batch, fileIn}
 use Rattle.fault.specs.Answers.{numberedFault}
 use Rattle.fault.specs.declared.Fault.{Fault}
-use Rattle.alone.proofs.OrderLaws.{is-some, is-zero, none-zero}
+use Rattle.fault.proofs.FaultLaws.{is-some, is-zero, none-zero}
 use Rattle.batch.specs.Order.{faultOf}
 use Rattle.counts.specs.Counted.{Counted}
 use Rattle.counts.specs.declared.Counts.{Counts}

@@ -4,7 +4,8 @@ use mathlib.Core.List.{List, [], _∷_}
 use Rattle.laws.specs.Numbered.{Numbered}
 use Rattle.field.specs.Stage.{fieldFault}
 use Rattle.thirteen.specs.Batch.{Batch, recordsOf, overFiles}
-use Rattle.alone.specs.Order.{lengthFault, bytesFault, versionFault, firstFault}
+use Rattle.filefaults.specs.Faults.{versionFault}
+use Rattle.alone.specs.Order.{lengthFault, bytesFault, firstFault}
 use Rattle.link.specs.Stage.{linksFault}
 use Rattle.trip.specs.Stage.{tripsFault}
 

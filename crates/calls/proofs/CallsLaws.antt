@@ -16,7 +16,7 @@ use Rattle.fault.specs.Answers.{numberedFault}
 use Rattle.batch.specs.Order.{faultOf}
 use Rattle.fault.specs.declared.Fault.{Fault}
 use Rattle.batch.proofs.AcceptedLaws.{standing}
-use Rattle.alone.proofs.OrderLaws.{none-zero, is-zero}
+use Rattle.fault.proofs.FaultLaws.{none-zero, is-zero}
 use Rattle.stopping.specs.Plain.{plainStop}
 use Rattle.stopping.proofs.StoppingLaws.{nth-view}
 use Rattle.calls.specs.Answers.{stopAnswer}

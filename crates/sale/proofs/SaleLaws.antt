@@ -11,7 +11,7 @@ use Rattle.lookup.specs.Ways.{Ways}
 use Rattle.thirteen.specs.Batch.{Batch, recordsOf}
 use Rattle.fault.specs.Answers.{numberedFault}
 use Rattle.fault.specs.declared.Fault.{Fault}
-use Rattle.alone.proofs.OrderLaws.{none-zero, is-zero}
+use Rattle.fault.proofs.FaultLaws.{none-zero, is-zero}
 use Rattle.batch.specs.Order.{faultOf}
 use Rattle.batch.proofs.AcceptedLaws.{standing}
 use Rattle.counter.proofs.RunsLaws.{asked}

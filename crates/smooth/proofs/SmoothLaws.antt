@@ -9,7 +9,7 @@ use Rattle.amiss.specs.Sound.{SoundFiles}
 use Rattle.thirteen.specs.Batch.{Batch, fileIn, overFiles}
 use Rattle.thirteen.proofs.OverLaws.{over-each}
 use Rattle.alone.specs.Order.{lengthFault, firstFault, fileStages}
-use Rattle.alone.specs.Sound.{RightVersion}
+use Rattle.filefaults.specs.Version.{RightVersion}
 use Rattle.alone.proofs.FileLaws.{not-long}
 use Rattle.alone.proofs.SoundLaws.{stages-none}
 use Rattle.smooth.specs.Smooth.{RisingWays, AllPassed, ShortFiles, Smooth}

@@ -8,7 +8,7 @@ use Rattle.keys.specs.Ranks.{IsKeyed}
 use Rattle.lookup.specs.Ways.{Ways}
 use Rattle.sweep.specs.Sweep.{SoundFrom}
 use Rattle.thirteen.specs.Batch.{Batch, thirteen, fileIn}
-use Rattle.alone.specs.Sound.{RightVersion}
+use Rattle.filefaults.specs.Version.{RightVersion}
 use Rattle.passage.specs.Passage.{Passes}
 
 -- a file is legal, its records have no fault, and its keys rise if it has keys

@@ -2,8 +2,8 @@
 // here; where something may be, or where keys don't rise, the files are gone through stage by stage as document 01 orders. A file comes behind those
 // that it links to: first Pevnykod and Dopravci, then Zastavky and Linky, then Spoje and Zaslinky, then the others.
 use alone::first_long;
-use alone::is_right_version;
 use fault::is_none;
+use filefaults::is_right_version;
 use glance::seem_rising;
 use passage::passes;
 use thirteen::file_of;

@@ -13,7 +13,8 @@ use Rattle.alone.specs.Order.{fileStages}
 use Rattle.batch.specs.Order.{stages, faultOf}
 use Rattle.alone.proofs.FileLaws.{legal-files}
 use Rattle.batch.proofs.SoundLaws.{sound-files}
-use Rattle.alone.proofs.OrderLaws.{is-some, stages-stop, stages-past, stages-zero}
+use Rattle.fault.proofs.FaultLaws.{is-some}
+use Rattle.alone.proofs.OrderLaws.{stages-stop, stages-past, stages-zero}
 use Rattle.batch.proofs.check_in_order.Statement.{statement}
 use Rattle.batch.proofs.check_in_order.Tie as tie
 

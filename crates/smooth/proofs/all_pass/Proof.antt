@@ -7,7 +7,7 @@ use denote.Ref.{now}
 use Rattle.laws.specs.Tests.{never}
 use Rattle.laws.specs.Numbered.{Numbered}
 use Rattle.thirteen.specs.Batch.{Batch, thirteen, fileIn}
-use Rattle.alone.proofs.OrderLaws.{is-zero}
+use Rattle.fault.proofs.FaultLaws.{is-zero}
 use Rattle.smooth.proofs.SmoothLaws.{smooth}
 use Rattle.smooth.proofs.all_pass.Statement.{statement}
 use Rattle.smooth.proofs.all_pass.Tie as tie

@@ -1,13 +1,13 @@
--- `alone::version_fault` meets its contract: no record, one that is cut and has one text, or more.
+-- `filefaults::version_fault` meets its contract: no record, one that is cut and has one text, or more.
 use mathlib.Core.Path.{sym, _∙_}
 use native.Mathlib.Omega.{arith}
 use borrow.Author.Needs.{needs}
 use denote.Ref.{now}
 use Rattle.walk.proofs.WalkLaws.{none-left, some-left, count-left, cut-text}
 use Rattle.fault.specs.Answers.{numberedFault}
-use Rattle.alone.proofs.FileLaws.{version-none, version-more, version-right, version-wrong}
-use Rattle.alone.proofs.version_fault.Statement.{statement}
-use Rattle.alone.proofs.version_fault.Tie as tie
+use Rattle.filefaults.proofs.VersionLaws.{version-none, version-more, version-right, version-wrong}
+use Rattle.filefaults.proofs.version_fault.Statement.{statement}
+use Rattle.filefaults.proofs.version_fault.Tie as tie
 
 returns : tie.Need-returns
 unfolding numberedFault

@@ -1,9 +1,9 @@
--- `alone::checked_fault` meets its contract, case by case.
+-- `filefaults::checked_fault` meets its contract, case by case.
 use borrow.Author.Needs.{needs}
 use Rattle.fields.specs.Check.{numberedChecked}
 use Rattle.fault.specs.Answers.{numberedFault}
-use Rattle.alone.proofs.checked_fault.Statement.{statement}
-use Rattle.alone.proofs.checked_fault.Tie as tie
+use Rattle.filefaults.proofs.checked_fault.Statement.{statement}
+use Rattle.filefaults.proofs.checked_fault.Tie as tie
 
 returns : tie.Need-returns
 unfolding numberedFault numberedChecked

@@ -1,4 +1,4 @@
--- `alone::is_right_version` meets its contract: its length, its reading and its one record, each with no fault.
+-- `filefaults::is_right_version` meets its contract: its length, its reading and its one record, each with no fault.
 use mathlib.Core.Path.{sym, _∙_}
 use native.Mathlib.Omega.{arith}
 use borrow.Author.Needs.{needs}
@@ -6,10 +6,10 @@ use borrow.Author.Tests.{eqb-true}
 use denote.Ref.{now}
 use Rattle.laws.specs.Tests.{never}
 use Rattle.walk.specs.Walk.{LegalFrom}
-use Rattle.alone.proofs.FileLaws.{outcome-whole}
-use Rattle.alone.proofs.OrderLaws.{none-zero, is-zero}
-use Rattle.alone.proofs.is_right_version.Statement.{statement}
-use Rattle.alone.proofs.is_right_version.Tie as tie
+use Rattle.filefaults.proofs.VersionLaws.{outcome-whole}
+use Rattle.fault.proofs.FaultLaws.{none-zero, is-zero}
+use Rattle.filefaults.proofs.is_right_version.Statement.{statement}
+use Rattle.filefaults.proofs.is_right_version.Tie as tie
 
 -- a reading with no fault is that of a legal file
 legal : (c : tie.Else2) → LegalFrom 1 (now (c .before .before .before .before .before .before .args .s)) 0

@@ -1,10 +1,10 @@
--- `alone::outcome_fault` meets its contract, case by case.
+-- `filefaults::outcome_fault` meets its contract, case by case.
 use borrow.Author.Needs.{needs}
 use Rattle.file.specs.Answers.{numbered}
 use Rattle.fault.specs.Answers.{numberedFault}
-use Rattle.alone.specs.Order.{outcomeFault}
-use Rattle.alone.proofs.outcome_fault.Statement.{statement}
-use Rattle.alone.proofs.outcome_fault.Tie as tie
+use Rattle.filefaults.specs.Faults.{outcomeFault}
+use Rattle.filefaults.proofs.outcome_fault.Statement.{statement}
+use Rattle.filefaults.proofs.outcome_fault.Tie as tie
 
 returns : tie.Need-returns
 unfolding numberedFault outcomeFault

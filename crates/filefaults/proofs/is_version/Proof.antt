@@ -1,12 +1,12 @@
--- `alone::is_version` meets its contract: three bytes, each tested.
+-- `filefaults::is_version` meets its contract: three bytes, each tested.
 use mathlib.Core.Path.{sym}
 use borrow.Author.Needs.{needs}
 use borrow.Author.Tests.{eq-eqb, ne-eqb}
 use lib.ListN.{getD}
 use denote.Ref.{now}
-use Rattle.alone.proofs.FileLaws.{other-size, three-bytes}
-use Rattle.alone.proofs.is_version.Statement.{statement}
-use Rattle.alone.proofs.is_version.Tie as tie
+use Rattle.filefaults.proofs.VersionLaws.{other-size, three-bytes}
+use Rattle.filefaults.proofs.is_version.Statement.{statement}
+use Rattle.filefaults.proofs.is_version.Tie as tie
 
 returns : tie.Need-returns
 returns c = sym (other-size (now (c .before .args .t)) (c .if1 .taken))

@@ -13,7 +13,7 @@ use Rattle.lines.specs.Order.{Rising}
 use Rattle.keys.specs.KeyFiles.{KeyFile, KeysRise}
 use Rattle.keys.specs.Ranks.{IsKeyed}
 use Rattle.keys.proofs.TableLaws.{one-of}
-use Rattle.lookup.proofs.WayLaws.{WaysBelow, setWay, way-rising, ways-more, ways-all}
+use Rattle.routes.proofs.RouteLaws.{WaysBelow, setWay, way-rising, ways-more, ways-all}
 use Rattle.links.proofs.KeyedLaws.{sound-key}
 use Rattle.sweep.proofs.SoundLaws.{fielded, sound-end}
 use Rattle.amiss.specs.Sound.{SoundFiles}

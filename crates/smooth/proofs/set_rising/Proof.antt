@@ -3,7 +3,7 @@ use mathlib.Core.Path.{_≡_, refl, _∙_}
 use Prim.Native.Nat.{_+_, _-_, _*_, _≤_, _<_}
 use native.Mathlib.Omega.{arith}
 use lib.ListN.{length, set, length-set}
-use Rattle.lookup.proofs.WayLaws.{setWay-size}
+use Rattle.routes.proofs.RouteLaws.{setWay-size}
 use Rattle.smooth.proofs.OrderlyLaws.{RisingBelow, rising-more, rising-all}
 use Rattle.smooth.proofs.set_rising.Statement.{statement}
 use Rattle.smooth.proofs.set_rising.Tie as tie

@@ -1,4 +1,4 @@
--- `lookup::survey` meets its contract. The loop's invariant: the ways to the files below `file` are kept.
+-- `routes::survey` meets its contract. The loop's invariant: the ways to the files below `file` are kept.
 use mathlib.Core.Path.{_≡_, refl, subst, _∙_}
 use mathlib.Core.List.{List}
 use Prim.Native.Nat.{ℕ, _+_, _-_, _*_, _≤_, _<_}
@@ -8,10 +8,10 @@ use lib.ListN.{length, set, length-set}
 use denote.Ref.{now}
 use Rattle.keys.specs.KeyFiles.{KeyFile}
 use Rattle.thirteen.specs.Batch.{Batch, thirteen, fileIn}
 use Rattle.lookup.specs.Ways.{Way}
-use Rattle.lookup.proofs.WayLaws.{WaysBelow, setWay-size, ways-more, ways-all}
-use Rattle.lookup.proofs.survey.Statement.{statement}
-use Rattle.lookup.proofs.survey.Tie as tie
+use Rattle.routes.proofs.RouteLaws.{WaysBelow, setWay-size, ways-more, ways-all}
+use Rattle.routes.proofs.survey.Statement.{statement}
+use Rattle.routes.proofs.survey.Tie as tie
 
 abbrev Inv-loop : tie.InvT-loop
 Inv-loop f1 f2 f3 f4 f5 f6 f7 f8 f9 f10 f11 f12 f13 order ways₀ from₀ file₀ ways from file =

@@ -1,4 +1,4 @@
--- `lookup::way_to` meets its contract: what the passes over the file and its part of the list have shown.
+-- `routes::way_to` meets its contract: what the passes over the file and its part of the list have shown.
 use mathlib.Core.Path.{_≡_, refl, sym, ap, subst, _∙_}
 use mathlib.Core.List.{List}
 use Prim.Native.Nat.{ℕ, _+_, _-_, _≤_, _<_}
@@ -8,10 +8,10 @@ use lib.ListN.{length, take, drop, length-drop}
 use lib.Seq.{length-take-le}
 use denote.Ref.{now}
 use Rattle.ordered.proofs.OrderedLaws.{rises-flag}
 use Rattle.lookup.specs.Ways.{partOf}
-use Rattle.lookup.proofs.WayLaws.{way-rising, way-none, way-index, way-apart}
-use Rattle.lookup.proofs.way_to.Statement.{statement}
-use Rattle.lookup.proofs.way_to.Tie as tie
+use Rattle.routes.proofs.RouteLaws.{way-rising, way-none, way-index, way-apart}
+use Rattle.routes.proofs.way_to.Statement.{statement}
+use Rattle.routes.proofs.way_to.Tie as tie
 
 returns : tie.Need-returns
 returns c =

@@ -25,6 +25,7 @@ use Rattle.lines.proofs.LineLaws.{size-cons, place-on, place-start, next-at}
 use Rattle.keys.specs.Keys.{keyOf, same, has, firstWith, none}
 use Rattle.keys.specs.KeyFiles.{KeyFile, PlaceIn}
 use Rattle.keys.specs.Ranks.{IsKeyed, recordAt}
+use Rattle.keys.proofs.TableLaws.{one-of}
 use Rattle.rules.specs.Texts.{texts, Kinded}
 use Rattle.rules.proofs.KindLaws.{text-at}
 use Rattle.link.specs.Numeric.{numeric, codeKind, NumberAt, CodeAt}
@@ -218,3 +219,8 @@ stop-met b at m p h =
     let e : getD (recordsIn n s) i [] ≡ getD rest 0 [] =
     ap (λ (rs : List Fields). getD rs i []) (p .whole) ∙ rw z at (getD-append-add (p .past) rest 0 []) in
     rw e at (m i l)
+
+-- field 1 is a number in each of the files 2-13
+pub first-number : (file : ℕ) → 2 ≤ file → file ≤ 13 → NumberAt file 1
+unfolding numeric kindOf kinds kind.zastavky kind.pevnykod kind.dopravci kind.linky kind.spoje kind.zaslinky kind.zasspoje kind.udaje kind.caskody kind.altdop kind.altlinky kind.mistenky fieldsOf fieldCounts
+first-number file low high = one-of (λ (k : ℕ). NumberAt k 1) 2 12 ((refl, omega arith, omega arith), ((refl, omega arith, omega arith), ((refl, omega arith, omega arith), ((refl, omega arith, omega arith), ((refl, omega arith, omega arith), ((refl, omega arith, omega arith), ((refl, omega arith, omega arith), ((refl, omega arith, omega arith), ((refl, omega arith, omega arith), ((refl, omega arith, omega arith), ((refl, omega arith, omega arith), ((refl, omega arith, omega arith), tt)))))))))))) file low (omega arith)

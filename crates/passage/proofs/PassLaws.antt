@@ -22,7 +22,8 @@ use Rattle.sweep.specs.Sweep.{ReadTo, Fielded, SoundFrom}
 use Rattle.sweep.proofs.SoundLaws.{sound-end, sound-step, records}
 use Rattle.link.specs.Stage.{fieldAmiss}
 use Rattle.thirteen.specs.Batch.{Batch}
-use Rattle.passage.specs.Passage.{KeyFor, Follows, AllMet, Passes}
+use Rattle.ascent.specs.Ascent.{KeyFor, Follows}
+use Rattle.passage.specs.Passage.{AllMet, Passes}
 
 -- ranks rise from a place on: at the start among themselves, and behind it above the last one, x
 abbrev risesOn : (Fields → ℕ) → ℕ → ℕ → List Fields → Bool

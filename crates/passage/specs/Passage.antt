@@ -6,22 +6,11 @@ use lib.ListN.{length, getD}
 use Rattle.file.specs.Files.{fieldsOf}
 use Rattle.file.specs.Format.{Fields}
 use Rattle.file.specs.Records.{recordsIn}
-use Rattle.keys.specs.Keys.{none}
 use Rattle.keys.specs.KeyFiles.{KeysRise}
-use Rattle.keys.specs.Ranks.{IsKeyed, rankOf, rankKey}
-use Rattle.keys.specs.declared.Key.{Key}
+use Rattle.keys.specs.Ranks.{IsKeyed}
 use Rattle.sweep.specs.Sweep.{SoundFrom}
 use Rattle.link.specs.Stage.{fieldAmiss}
 use Rattle.thirteen.specs.Batch.{Batch}
-
--- k is the record's key, if its file has keys, and may be compared
-pub record KeyFor (file : ℕ) (r : Fields) (k : Key) : Type 0 where
-  pub low : k .lo < none
-  pub rank : IsKeyed file → rankKey k ≡ rankOf file r
-
--- the record at this place may have the key k: it is above the last one, if there is one before it and the file has keys
-abbrev pub Follows : ℕ → ℕ → Key → Key → Type 0
-Follows file at last k = IsKeyed file → (at ≡ 0 → ⊥) → rankKey last < rankKey k
 
 -- nothing is wrong with any link or sign of these records, looked up in g
 abbrev pub AllMet : Batch → ℕ → List Fields → Type 0

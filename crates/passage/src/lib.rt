@@ -1,73 +1,25 @@
 // A file gone through once: its bytes, the kinds and rules of its records, whether their keys rise, and their links and signs, which are looked up
 // in a batch whose files stand already. What is wrong, and where, is not said.
-use amiss::number_of;
+use ascent::follows;
+use ascent::key_of;
 use file::fields_of;
 use keys::Key;
-use keys::less;
 use recall::record_met;
 use rules::meets_rules;
 use sweep::read_on;
 ghost use mathlib.Core.Path.{_≡_};
 ghost use mathlib.Core.Bool.{true};
-ghost use Prim.Native.Nat.{_≤_, _<_};
+ghost use Prim.Native.Nat.{_≤_};
 ghost use lib.ListN.{length};
 ghost use Rattle.file.specs.Reader.{Classes};
 ghost use Rattle.field.specs.Rules.{meets};
-ghost use Rattle.rules.specs.Texts.{texts, Kinded};
-ghost use Rattle.keys.specs.Keys.{none};
-ghost use Rattle.keys.specs.Ranks.{IsKeyed, KeyIs, rankOf};
+ghost use Rattle.rules.specs.Texts.{texts};
 ghost use Rattle.link.specs.Stage.{fieldAmiss};
 ghost use Rattle.lookup.specs.Ways.{Ways, Lasts};
 ghost use Rattle.thirteen.specs.Batch.{thirteen};
 ghost use Rattle.recall.specs.Recall.{Recalls};
 ghost use Rattle.amiss.specs.Sound.{SoundFiles, StopsMet, Known, Record};
-ghost use Rattle.passage.specs.Passage.{KeyFor, Follows, Passes};
-
-// The key of a record that was cut, in a file that has keys.
-fn keyed(file: u64, s: &[u8], places: &[usize; 14]) -> Key
-    requires { ⌜ IsKeyed file × Kinded file (now s) (now places) ⌝ }
-    ensures { λ k. ⌜ KeyIs (rankOf file (texts file (now (s .entry)) (now (places .entry)))) k ⌝ }
-{
-    let a = number_of(file, s, places, 1);
-    if file < 6 {
-        return Key { hi: a, lo: 0 };
-    }
-    let b = number_of(file, s, places, 2);
-    let hi = a * 1000000000 + b;
-    if file < 8 {
-        return Key { hi: hi, lo: 0 };
-    }
-    if file == 9 {
-        return Key { hi: hi, lo: 0 };
-    }
-    let c = number_of(file, s, places, 3);
-    Key { hi: hi, lo: c }
-}
-
-// The same in any file: nothing is said of what it is where there are no keys.
-fn key_of(file: u64, s: &[u8], places: &[usize; 14]) -> Key
-    requires { ⌜ (2 ≤ file) × Kinded file (now s) (now places) ⌝ }
-    ensures { λ k. ⌜ KeyFor file (texts file (now (s .entry)) (now (places .entry))) k ⌝ }
-{
-    if file > 10 {
-        return Key { hi: 0, lo: 0 };
-    }
-    keyed(file, s, places)
-}
-
-// Whether the record at this place may have the key k, where the one before it has the key `last`. None stands before the record at 0.
-fn follows(file: u64, at: usize, last: Key, k: Key) -> bool
-    requires { ⌜ (last .lo < none) × (k .lo < none) ⌝ }
-    ensures { λ r. ⌜ (r ≡ true → Follows file at last k) ⌝ }
-{
-    if file > 10 {
-        return true;
-    }
-    if at == 0 {
-        return true;
-    }
-    less(last, k)
-}
+ghost use Rattle.passage.specs.Passage.{Passes};
 
 // Whether a record that was cut meets its rules, and nothing is wrong with its links and signs.
 fn stands_well<'a>(

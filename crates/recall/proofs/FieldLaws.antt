@@ -11,13 +11,9 @@ use Rattle.laws.specs.Below.{below}
 use Rattle.laws.specs.Tests.{either}
 use Rattle.file.specs.Files.{fieldCounts, fieldsOf}
 use Rattle.file.specs.Format.{Fields}
-use Rattle.field.specs.Kinds as kind
-use Rattle.field.specs.Kinds.{kinds, kindOf}
 use Rattle.walk.proofs.WalkLaws.{cut-size}
 use Rattle.rules.specs.Texts.{texts}
-use Rattle.keys.proofs.TableLaws.{one-of}
 use Rattle.link.specs.Links.{linksIn}
-use Rattle.link.specs.Numeric.{numeric, NumberAt}
 use Rattle.link.specs.Stage.{amiss, firstAmiss, fieldAmiss}
 use Rattle.link.proofs.MatchLaws.{free-behind, links-few}
 use Rattle.amiss.proofs.AmissLaws.{free-amiss}
@@ -99,8 +95,3 @@ fields-few file =
     either (ltb file 14)
     (λ e. leb→le (fieldsOf file) 13 (below 14 few tt file (ltb-true file 14 e)))
     (λ e. let z : fieldsOf file ≡ 0 = List·getD-eq-default (0 ∷ fieldCounts) 0 (ltb-false file 14 e) in omega arith)
-
--- field 1 is a number in each of the files 2-13
-pub first-number : (file : ℕ) → 2 ≤ file → file ≤ 13 → NumberAt file 1
-unfolding numeric kindOf kinds kind.zastavky kind.pevnykod kind.dopravci kind.linky kind.spoje kind.zaslinky kind.zasspoje kind.udaje kind.caskody kind.altdop kind.altlinky kind.mistenky fieldsOf fieldCounts
-first-number file low high = one-of (λ (k : ℕ). NumberAt k 1) 2 12 ((refl, omega arith, omega arith), ((refl, omega arith, omega arith), ((refl, omega arith, omega arith), ((refl, omega arith, omega arith), ((refl, omega arith, omega arith), ((refl, omega arith, omega arith), ((refl, omega arith, omega arith), ((refl, omega arith, omega arith), ((refl, omega arith, omega arith), ((refl, omega arith, omega arith), ((refl, omega arith, omega arith), ((refl, omega arith, omega arith), tt)))))))))))) file low (omega arith)

@@ -12,9 +12,9 @@ use Rattle.lookup.specs.Ways.{Lasts}
 use Rattle.thirteen.specs.Batch.{thirteen}
 use Rattle.link.specs.Stage.{firstAmiss, fieldAmiss}
 use Rattle.link.proofs.MatchLaws.{links-few}
-use Rattle.amiss.proofs.RecordLaws.{record-later}
+use Rattle.amiss.proofs.RecordLaws.{record-later, first-number}
 use Rattle.recall.specs.Recall.{Recalls}
-use Rattle.recall.proofs.FieldLaws.{amiss-from, amiss-turn, amiss-done, fields-few, first-number}
+use Rattle.recall.proofs.FieldLaws.{amiss-from, amiss-turn, amiss-done, fields-few}
 use Rattle.recall.proofs.record_met.Statement.{statement}
 use Rattle.recall.proofs.record_met.Tie as tie
 

@@ -1,10 +1,10 @@
--- `passage::follows` meets its contract: a file past 10 has no keys, nothing stands before 0, and else the keys are compared.
+-- `ascent::follows` meets its contract: a file past 10 has no keys, nothing stands before 0, and else the keys are compared.
 use mathlib.Core.Path.{sym, _∙_}
 use borrow.Author.Needs.{needs}
 use borrow.Author.Tests.{ltb-true}
 use Rattle.keys.specs.Ranks.{rankKey}
-use Rattle.passage.proofs.follows.Statement.{statement}
-use Rattle.passage.proofs.follows.Tie as tie
+use Rattle.ascent.proofs.follows.Statement.{statement}
+use Rattle.ascent.proofs.follows.Tie as tie
 
 returns-3 : tie.Need-returns-3
 returns-3 c t q z =

@@ -1,14 +1,14 @@
--- `passage::keyed` meets its contract: the fields of a key are numbers, read one after another.
+-- `ascent::keyed` meets its contract: the fields of a key are numbers, read one after another.
 use native.Mathlib.Omega.{arith}
 use borrow.Author.Needs.{needs}
 use denote.Ref.{now}
 use Rattle.keys.proofs.TableLaws.{keyed-two, keyed-nine, keyed-three}
-use Rattle.recall.proofs.FieldLaws.{first-number}
+use Rattle.amiss.proofs.RecordLaws.{first-number}
 use Rattle.rules.specs.Texts.{texts}
 use Rattle.file.specs.Format.{Fields}
-use Rattle.passage.proofs.KeyLaws.{second-number, third-number, key-one, key-two, key-three}
-use Rattle.passage.proofs.keyed.Statement.{statement}
-use Rattle.passage.proofs.keyed.Tie as tie
+use Rattle.ascent.proofs.KeyLaws.{second-number, third-number, key-one, key-two, key-three}
+use Rattle.ascent.proofs.keyed.Statement.{statement}
+use Rattle.ascent.proofs.keyed.Tie as tie
 
 -- the record
 abbrev record-of : tie.Start → Fields

@@ -3,7 +3,9 @@ use mathlib.Core.Path.{_∙_}
 use mathlib.Core.List.{[]}
 use borrow.Author.Needs.{needs}
 use Rattle.codes.proofs.SeenLaws.{marks-are}
-use Rattle.running.proofs.RunningLaws.{codes-meet, left-flags, left-seen, signs-free, no-day-sign}
+use Rattle.timecodes.proofs.TimeCodeLaws.{codes-meet}
+use Rattle.daysigns.proofs.SignLaws.{no-day-sign}
+use Rattle.running.proofs.RunningLaws.{left-flags, left-seen, signs-free}
 use Rattle.running.proofs.days_fit.Statement.{statement}
 use Rattle.running.proofs.days_fit.Tie as tie
 

@@ -1,11 +1,11 @@
--- `running::hold_on` meets its contract: the type is marked only if the time code holds day d.
+-- `timecodes::hold_on` meets its contract: the type is marked only if the time code holds day d.
 use mathlib.Core.Path.{sym, _∙_}
 use borrow.Author.Needs.{needs}
 use denote.Ref.{now}
 use borrow.Author.Tests.{not-true, not-false}
-use Rattle.running.proofs.RunningLaws.{held-left, held-marked}
-use Rattle.running.proofs.hold_on.Statement.{statement}
-use Rattle.running.proofs.hold_on.Tie as tie
+use Rattle.timecodes.proofs.TimeCodeLaws.{held-left, held-marked}
+use Rattle.timecodes.proofs.hold_on.Statement.{statement}
+use Rattle.timecodes.proofs.hold_on.Tie as tie
 
 returns : tie.Need-returns
 returns c =

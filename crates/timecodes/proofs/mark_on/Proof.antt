@@ -1,9 +1,9 @@
--- `running::mark_on` meets its contract, branch by branch.
+-- `timecodes::mark_on` meets its contract, branch by branch.
 use mathlib.Core.Path.{sym, _∙_}
 use borrow.Author.Needs.{needs}
-use Rattle.running.proofs.RunningLaws.{mark-none, mark-first, mark-same, mark-other}
-use Rattle.running.proofs.mark_on.Statement.{statement}
-use Rattle.running.proofs.mark_on.Tie as tie
+use Rattle.timecodes.proofs.TimeCodeLaws.{mark-none, mark-first, mark-same, mark-other}
+use Rattle.timecodes.proofs.mark_on.Statement.{statement}
+use Rattle.timecodes.proofs.mark_on.Tie as tie
 
 returns : tie.Need-returns
 returns c =

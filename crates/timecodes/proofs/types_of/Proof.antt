@@ -1,10 +1,10 @@
--- `running::types_of` meets its contract. The loop's invariant: what the list and the marks come to behind the time codes that are left is
+-- `timecodes::types_of` meets its contract. The loop's invariant: what the list and the marks come to behind the time codes that are left is
 -- what they come to behind all.
 use native.Mathlib.Omega.{arith}
 use lib.ListN.{length}
-use Rattle.running.proofs.RunningLaws.{leftAt, walks-at, record-there, cut-kinds, cut-meets, cut-treads, left-less, Typing, typing-start, typing-next, typing-end}
-use Rattle.running.proofs.types_of.Statement.{statement}
-use Rattle.running.proofs.types_of.Tie as tie
+use Rattle.timecodes.proofs.TimeCodeLaws.{leftAt, walks-at, record-there, cut-kinds, cut-meets, cut-treads, left-less, Typing, typing-start, typing-next, typing-end}
+use Rattle.timecodes.proofs.types_of.Statement.{statement}
+use Rattle.timecodes.proofs.types_of.Tie as tie
 
 abbrev Inv-loop : tie.InvT-loop
 Inv-loop f10 order ways last entry line trip class seen₀ places₀ m₀ near₀ step₀ seen places m near step =

@@ -1,4 +1,4 @@
--- `running::has_day_sign` meets its contract. The loop's invariant: whether one of the signs that are left is a day sign is whether one of all is.
+-- `daysigns::has_day_sign` meets its contract. The loop's invariant: whether one of the signs that are left is a day sign is whether one of all is.
 use mathlib.Core.Path.{_≡_, refl, sym, _∙_}
 use Prim.Native.Nat.{_-_, _≤_}
 use native.Mathlib.Omega.{arith}
@@ -10,9 +10,9 @@ use Rattle.link.specs.Signs.{signIn, codesFile}
 use Rattle.rules.specs.Texts.{texts}
 use Rattle.trip.specs.Days.{hasDaySign}
 use Rattle.trip.specs.Stage.{tripsFile}
-use Rattle.running.proofs.RunningLaws.{signsLeft, trip-code, sign-here, sign-past, sign-end, zero-no-sign}
-use Rattle.running.proofs.has_day_sign.Statement.{statement}
-use Rattle.running.proofs.has_day_sign.Tie as tie
+use Rattle.daysigns.proofs.SignLaws.{signsLeft, trip-code, sign-here, sign-past, sign-end, zero-no-sign}
+use Rattle.daysigns.proofs.has_day_sign.Statement.{statement}
+use Rattle.daysigns.proofs.has_day_sign.Tie as tie
 
 abbrev Inv-loop : tie.InvT-loop
 Inv-loop f6 places f3 order ways class i₀ i =

@@ -1,4 +1,4 @@
--- `running::signs_allow` meets its contract. The loop's invariant: whether one of the signs that are left fits day d is whether one of all does.
+-- `daysigns::signs_allow` meets its contract. The loop's invariant: whether one of the signs that are left fits day d is whether one of all does.
 use mathlib.Core.Path.{_≡_, refl, sym, _∙_}
 use Prim.Native.Nat.{_-_, _≤_}
 use native.Mathlib.Omega.{arith}
@@ -10,9 +10,9 @@ use Rattle.file.specs.Records.{recordsIn}
 use Rattle.link.specs.Signs.{signIn, codesFile}
 use Rattle.rules.specs.Texts.{texts}
 use Rattle.trip.specs.Stage.{tripsFile}
-use Rattle.running.proofs.RunningLaws.{signsLeft, trip-code, sign-here, sign-past, sign-end, zero-fits-none, signs-one, signs-none}
-use Rattle.running.proofs.signs_allow.Statement.{statement}
-use Rattle.running.proofs.signs_allow.Tie as tie
+use Rattle.daysigns.proofs.SignLaws.{signsLeft, trip-code, sign-here, sign-past, sign-end, zero-fits-none, signs-one, signs-none}
+use Rattle.daysigns.proofs.signs_allow.Statement.{statement}
+use Rattle.daysigns.proofs.signs_allow.Tie as tie
 
 abbrev Inv-loop : tie.InvT-loop
 Inv-loop f6 places f3 order ways class d holidays i₀ i =

@@ -1,11 +1,11 @@
--- `running::held_on` meets its contract. The loop's invariant: what the list comes to behind the time codes that are left is what it comes to
+-- `timecodes::held_on` meets its contract. The loop's invariant: what the list comes to behind the time codes that are left is what it comes to
 -- behind all.
 use native.Mathlib.Omega.{arith}
 use lib.ListN.{length}
 use Rattle.lines.proofs.LineLaws.{place-start}
-use Rattle.running.proofs.RunningLaws.{leftAt, walks-at, record-there, cut-kinds, cut-treads, left-less, Holding, holding-start, holding-next, holding-end}
-use Rattle.running.proofs.held_on.Statement.{statement}
-use Rattle.running.proofs.held_on.Tie as tie
+use Rattle.timecodes.proofs.TimeCodeLaws.{leftAt, walks-at, record-there, cut-kinds, cut-treads, left-less, Holding, holding-start, holding-next, holding-end}
+use Rattle.timecodes.proofs.held_on.Statement.{statement}
+use Rattle.timecodes.proofs.held_on.Tie as tie
 
 abbrev Inv-loop : tie.InvT-loop
 Inv-loop f10 order ways line trip d class held₀ places₀ step₀ held places step = Holding f10 line trip d held₀ held (step .at)

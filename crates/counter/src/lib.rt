@@ -4,7 +4,7 @@ use fault::is_none;
 use file::classes;
 use outcome::Running;
 use steps::by_two;
-use trips::runs::trip_runs;
+use tripruns::trip_runs;
 use walk::Found;
 ghost use mathlib.Core.Path.{_≡_};
 ghost use Prim.Native.Nat.{_≤_};

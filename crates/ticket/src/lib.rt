@@ -9,7 +9,7 @@ use calendar::day_of;
 use marks::stop_marks;
 use roll::stop_of;
 use steps::by_two;
-use trips::runs::trip_runs;
+use tripruns::trip_runs;
 use walk::Found;
 use walk::cut;
 ghost use mathlib.Core.Path.{_≡_};

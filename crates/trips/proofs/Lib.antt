@@ -2,4 +2,3 @@ pub mod PlainLaws
 pub mod ReadyLaws
 pub mod FaultLaws
 pub mod IndexedLaws
-pub mod RunsLaws

@@ -1,6 +1,4 @@
 // The first trip of a batch, in Spoje order, whose days or stops are wrong: refusals 10 and 11.
-pub mod runs; // runs.rt: whether a trip runs on a day
-
 use calling::stops_fit;
 use field::value_of;
 use lookup::index_of;

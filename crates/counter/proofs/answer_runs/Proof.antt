@@ -11,7 +11,7 @@ use Rattle.file.specs.Records.{recordsIn}
 use Rattle.keys.specs.Keys.{keyFields, keyTable}
 use Rattle.keys.proofs.KeyLaws.{has-found, has-none}
 use Rattle.lines.proofs.LineLaws.{place-start}
-use Rattle.trips.proofs.RunsLaws.{found-trip}
+use Rattle.tripruns.proofs.RunsLaws.{found-trip}
 use Rattle.outcome.specs.Answers.{numberedRuns}
 use Rattle.roll.proofs.TripLaws.{no-line, no-trip}
 use Rattle.counter.proofs.RunsLaws.{answer-none, answer-found}

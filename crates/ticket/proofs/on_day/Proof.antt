@@ -8,7 +8,7 @@ use Rattle.file.specs.Format.{Fields}
 use Rattle.file.specs.Records.{recordsIn}
 use Rattle.keys.proofs.KeyLaws.{has-found, has-none}
 use Rattle.lines.proofs.LineLaws.{place-start}
-use Rattle.trips.proofs.RunsLaws.{found-trip}
+use Rattle.tripruns.proofs.RunsLaws.{found-trip}
 use Rattle.roll.proofs.TripLaws.{no-line, no-trip, trip-found}
 use Rattle.stopping.proofs.StoppingLaws.{two-numbers}
 use Rattle.boarding.specs.Answers.{numberedSold}

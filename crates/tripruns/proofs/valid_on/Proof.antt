@@ -1,4 +1,4 @@
--- `trips::runs::valid_on` meets its contract: the record that is found by the line is the line's, and there is one.
+-- `tripruns::valid_on` meets its contract: the record that is found by the line is the line's, and there is one.
 use mathlib.Core.Path.{refl, sym, ap, _∙_}
 use mathlib.Core.List.{[], _∷_}
 use borrow.Author.Needs.{needs}
@@ -9,9 +9,9 @@ use Rattle.file.specs.Records.{recordsIn}
 use Rattle.keys.specs.Keys.{keyFields, keyTable}
 use Rattle.lines.proofs.LineLaws.{place-start}
 use Rattle.trip.specs.Days.{isValid}
-use Rattle.trips.proofs.RunsLaws.{found-line, found-some, line-found}
-use Rattle.trips.proofs.runs.valid_on.Statement.{statement}
-use Rattle.trips.proofs.runs.valid_on.Tie as tie
+use Rattle.tripruns.proofs.RunsLaws.{found-line, found-some, line-found}
+use Rattle.tripruns.proofs.valid_on.Statement.{statement}
+use Rattle.tripruns.proofs.valid_on.Tie as tie
 
 by-one-requires : tie.Need-by-one-requires
 unfolding keyFields keyTable

@@ -1,13 +1,13 @@
--- `trips::runs::valid_at` meets its contract: the record that is cut is the one at the place, and its ninth and tenth fields are dates.
+-- `tripruns::valid_at` meets its contract: the record that is cut is the one at the place, and its ninth and tenth fields are dates.
 use mathlib.Core.Path.{refl}
 use native.Mathlib.Omega.{arith}
 use borrow.Author.Tests.{lt-leb, le-leb}
 use denote.Ref.{now}
 use Rattle.file.specs.Files.{fieldsOf, fieldCounts}
 use Rattle.coded.proofs.LeftLaws.{left-here, left-kinded}
-use Rattle.trips.proofs.RunsLaws.{from-date, to-date, valid-within}
-use Rattle.trips.proofs.runs.valid_at.Statement.{statement}
-use Rattle.trips.proofs.runs.valid_at.Tie as tie
+use Rattle.tripruns.proofs.RunsLaws.{from-date, to-date, valid-within}
+use Rattle.tripruns.proofs.valid_at.Statement.{statement}
+use Rattle.tripruns.proofs.valid_at.Tie as tie
 
 cut-requires : tie.Need-cut-requires
 unfolding fieldsOf fieldCounts

@@ -1,13 +1,13 @@
--- `trips::runs::trip_runs` meets its contract: the line's validity first, and then the signs and time codes of the record that is cut.
+-- `tripruns::trip_runs` meets its contract: the line's validity first, and then the signs and time codes of the record that is cut.
 use borrow.Author.Needs.{needs}
 use borrow.Author.Tests.{not-true, not-false}
 use denote.Ref.{now}
 use Rattle.file.specs.Files.{fieldsOf, fieldCounts}
 use Rattle.walk.proofs.WalkLaws.{cut-first}
 use Rattle.coded.proofs.LeftLaws.{left-here, left-kinded}
 use Rattle.trips.specs.Plain.{plainRuns}
-use Rattle.trips.proofs.runs.trip_runs.Statement.{statement}
-use Rattle.trips.proofs.runs.trip_runs.Tie as tie
+use Rattle.tripruns.proofs.trip_runs.Statement.{statement}
+use Rattle.tripruns.proofs.trip_runs.Tie as tie
 
 returns : tie.Need-returns
 unfolding plainRuns

@@ -1,6 +1,5 @@
--- Laws of a file whose keys rise: what a pass over it has seen, what a search for the first key from x on has passed, and what its callers
--- learn of the place that is found.
-use mathlib.Core.Path.{_≡_, refl, sym, ap, _∙_}
+-- Laws of a file whose keys rise: what a pass over it has seen, where a search may start, and what its callers learn of the place that is found.
+use mathlib.Core.Path.{_≡_, sym, ap, _∙_}
 use mathlib.Core.Bool.{Bool, true, false}
 use mathlib.Core.List.{List, _∷_, _++_}
 use Prim.Native.Nat.{ℕ, _+_, _≤_, _<_}
@@ -10,31 +9,19 @@ use Rattle.file.specs.Files.{fieldsOf}
 use Rattle.file.specs.Format.{Fields, written}
 use Rattle.file.specs.Records.{recordsIn}
 use Rattle.walk.proofs.WalkLaws.{firstRecord}
-use Rattle.lines.specs.Lines.{behind, Place, Next}
+use Rattle.lines.specs.Lines.{behind, Place}
 use Rattle.lines.specs.Order.{firstFrom, Rising, risesAfter, isRising}
-use Rattle.lines.proofs.LineLaws.{place-start, next-line, next-at, line-place}
-use Rattle.lines.proofs.OrderLaws.{is-rising, rises-start, rises-turn, rises-stop, rises-end, from-hit, from-turn, from-end, place-rising, bisect, from-skip, place-distinct}
+use Rattle.lines.proofs.LineLaws.{next-at}
+use Rattle.lines.proofs.OrderLaws.{is-rising, rises-start, rises-turn, rises-stop, rises-end, from-skip, place-distinct}
 use Rattle.lines.proofs.OrderLaws as order
 use Rattle.keys.specs.Keys.{none, keyOf, has}
 use Rattle.keys.specs.Ranks.{rankOf, rankKey, KeyIs, recordAt}
-use Rattle.ordered.specs.Narrowing.{Sought}
 use Rattle.keys.specs.KeyFiles.{KeyFile, KeysRise, PlaceIn, recordsFrom}
 use Rattle.keys.specs.declared.Key.{Key}
 use Rattle.keys.proofs.KeyLaws.{key-size}
 use Rattle.keys.proofs.KeyFileLaws.{key-here, here-small, keys-past, has-rank}
-
--- the first record of a file starts at 0
-pub start : (file : ℕ) (s : List ℕ) → KeyFile file s → PlaceIn file s 0
-start file s f = place-start (fieldsOf file) s (f .legal)
-
--- the record that starts at `at`, and the place behind the next LF
-pub step : (file : ℕ) (s : List ℕ) (at next : ℕ) → PlaceIn file s at → at < length s → next ≡ behind s at
-    → Next (fieldsOf file) s at (recordAt file s at) next
-step file s at next p h e = next-line (fieldsOf file) s at p h next e
-
--- behind the next LF from anywhere on a record starts, or the file ends
-pub line-start : (file : ℕ) (s : List ℕ) (at mid to : ℕ) → PlaceIn file s at → to ≡ behind s mid → at ≤ mid → mid < length s → PlaceIn file s to
-line-start file s at mid to p e h l = line-place (fieldsOf file) s at mid to p h l e .place
+use Rattle.bisection.specs.Narrowing.{Sought}
+use Rattle.bisection.proofs.SoughtLaws.{start, step, sought-next, sought-here}
 
 -- what a pass has seen when it comes to `at`, where `last` is the key before: the file's keys rise if those from there on do
 pub record Passed (file : ℕ) (s : List ℕ) (last : Key) (at : ℕ) : Type 0 where
@@ -76,39 +63,6 @@ module _ (file : ℕ) (s : List ℕ) (last : Key) (at : ℕ) (p : Passed file s 
   -- and so does the file's end
   pub passed-end : length s ≤ at → true ≡ isRising (rankOf file) (recordsIn (fieldsOf file) s)
   passed-end h = sym (rises-end (fieldsOf file) (rankOf file) s at (rankKey last) h) ∙ p .rest
-
--- nothing yet
-pub sought-none : (file : ℕ) (s : List ℕ) (x from : ℕ) → PlaceIn file s from → Sought file s x from from
-sought-none file s x from p = record { place = p; same = refl }
-
-module _ (file : ℕ) (s : List ℕ) (x from at : ℕ) (p : Sought file s x from at) where
-  -- a record with a lesser key is passed
-  pub sought-next : (k : Key) (next : ℕ) → at < length s → KeyIs (rankOf file (recordAt file s at)) k → next ≡ behind s at → rankKey k < x
-      → Sought file s x from next
-  sought-next k next h i e l =
-      let n = step file s at next (p .place) h e in
-      let g = rw (i .rank) at l in
-      record { place = n .place; same = sym (from-turn (fieldsOf file) (rankOf file) s at x (recordAt file s at) next n g) ∙ p .same }
-
-  -- one with another is found
-  pub sought-here : (k : Key) → at < length s → KeyIs (rankOf file (recordAt file s at)) k → x ≤ rankKey k
-      → at ≡ firstFrom (rankOf file) x from (recordsFrom file s from)
-  sought-here k h i l =
-      let g = rw (i .rank) at l in
-      sym (from-hit (fieldsOf file) (rankOf file) s at x (p .place) h g) ∙ p .same
-
-  -- the file's end is the place behind the last
-  pub sought-end : length s ≤ at → at ≡ firstFrom (rankOf file) x from (recordsFrom file s from)
-  sought-end h = sym (from-end (fieldsOf file) (rankOf file) s at x h) ∙ p .same
-
-  -- where keys rise, all records before one with a lesser key are passed at once
-  pub sought-far : KeysRise file s → (k : Key) (mid to : ℕ) → to ≡ behind s mid → KeyIs (rankOf file (recordAt file s to)) k → rankKey k < x
-      → at ≤ mid → to < length s → Sought file s x from to
-  sought-far up k mid to e i l h j =
-      let g = rw (i .rank) at l in
-      let u = place-rising (fieldsOf file) (rankOf file) s at up (p .place) in
-      let b = bisect (fieldsOf file) (rankOf file) s at mid to x (p .place) u h e j g in
-      record { place = b .place; same = sym (b .same) ∙ p .same }
 
 -- where keys rise, all records before one whose key is at most x have lesser keys
 pub from-split : (n : ℕ) (rank : Fields → ℕ) (s : List ℕ) (at x : ℕ) → Rising rank (recordsIn n s) → Place n s at → at < length s

@@ -6,7 +6,8 @@ use borrow.Author.Tests.{eqb-true, ltb-true, ltb-false, not-true, not-false}
 use denote.Ref.{now}
 use Rattle.keys.specs.Ranks.{rankKey}
 use Rattle.keys.proofs.KeyFileLaws.{key-here}
-use Rattle.ordered.proofs.OrderedLaws.{step, there-found, there-passed, sought-here, sought-end}
+use Rattle.bisection.proofs.SoughtLaws.{step, sought-here, sought-end}
+use Rattle.ordered.proofs.OrderedLaws.{there-found, there-passed}
 use Rattle.ordered.proofs.first_from.Statement.{statement}
 use Rattle.ordered.proofs.first_from.Tie as tie
 

@@ -10,7 +10,8 @@ use Rattle.file.specs.Files.{fieldsOf}
 use Rattle.lines.proofs.OrderLaws.{rises-none}
 use Rattle.keys.specs.Ranks.{rankOf, rankKey}
 use Rattle.keys.proofs.KeyFileLaws.{key-here}
-use Rattle.ordered.proofs.OrderedLaws.{start, Passed, passed-first, passed-next, passed-stop, passed-end}
+use Rattle.bisection.proofs.SoughtLaws.{start}
+use Rattle.ordered.proofs.OrderedLaws.{Passed, passed-first, passed-next, passed-stop, passed-end}
 use Rattle.ordered.proofs.rising.Statement.{statement}
 use Rattle.ordered.proofs.rising.Tie as tie
 

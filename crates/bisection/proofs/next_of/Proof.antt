@@ -1,4 +1,4 @@
--- `ordered::next_of` meets its contract.
+-- `bisection::next_of` meets its contract.
 use mathlib.Core.Path.{_≡_}
 use mathlib.Core.List.{List}
 use Prim.Native.Nat.{ℕ, _≤_, _<_}
@@ -9,8 +9,8 @@ use Rattle.lines.specs.Lines.{Place}
 use Rattle.file.specs.Files.{fieldsOf}
 use Rattle.keys.specs.KeyFiles.{PlaceIn}
 use Rattle.keys.proofs.TableLaws.{keyed-fields}
-use Rattle.ordered.proofs.next_of.Statement.{statement}
-use Rattle.ordered.proofs.next_of.Tie as tie
+use Rattle.bisection.proofs.next_of.Statement.{statement}
+use Rattle.bisection.proofs.next_of.Tie as tie
 
 -- the number of fields is the file's
 asked : (file n : ℕ) (s : List ℕ) (at : ℕ) → n ≡ fieldsOf file → PlaceIn file s at → at < length s → fieldsOf file ≤ 13 → Place n s at × (at < length s) × (n ≤ 13)

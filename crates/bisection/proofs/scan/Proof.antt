@@ -1,4 +1,4 @@
--- `ordered::scan` meets its contract. The loop's invariant: the answer is that of the records from `at` on.
+-- `bisection::scan` meets its contract. The loop's invariant: the answer is that of the records from `at` on.
 use mathlib.Core.Path.{sym, _∙_}
 use Prim.Native.Nat.{_-_}
 use native.Mathlib.Omega.{arith}
@@ -8,10 +8,10 @@ use lib.ListN.{length}
 use denote.Ref.{now}
 use Rattle.keys.specs.Ranks.{rankKey}
 use Rattle.keys.proofs.KeyFileLaws.{key-here}
-use Rattle.ordered.specs.Narrowing.{Sought}
-use Rattle.ordered.proofs.OrderedLaws.{sought-none, sought-next, sought-here, sought-end}
-use Rattle.ordered.proofs.scan.Statement.{statement}
-use Rattle.ordered.proofs.scan.Tie as tie
+use Rattle.bisection.specs.Narrowing.{Sought}
+use Rattle.bisection.proofs.SoughtLaws.{sought-none, sought-next, sought-here, sought-end}
+use Rattle.bisection.proofs.scan.Statement.{statement}
+use Rattle.bisection.proofs.scan.Tie as tie
 
 abbrev Inv-loop : tie.InvT-loop
 Inv-loop file s from x at₀ at = Sought file s (rankKey x) from at

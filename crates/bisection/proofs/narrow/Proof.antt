@@ -1,13 +1,13 @@
--- `ordered::narrow` meets its contract. The loop's invariant: the answer is that of the records from `lo` on.
+-- `bisection::narrow` meets its contract. The loop's invariant: the answer is that of the records from `lo` on.
 use mathlib.Core.Path.{_∙_}
 use Prim.Native.Nat.{_-_, _≤_, _<_}
 use native.Mathlib.Omega.{arith}
 use borrow.Author.Needs.{needs}
 use lib.ListN.{length}
 use Rattle.keys.specs.Ranks.{rankKey}
-use Rattle.ordered.specs.Narrowing.{Sought}
-use Rattle.ordered.proofs.narrow.Statement.{statement}
-use Rattle.ordered.proofs.narrow.Tie as tie
+use Rattle.bisection.specs.Narrowing.{Sought}
+use Rattle.bisection.proofs.narrow.Statement.{statement}
+use Rattle.bisection.proofs.narrow.Tie as tie
 
 abbrev Inv-loop : tie.InvT-loop
 Inv-loop file s x left₀ margin₀ left margin = (left .hi ≤ length s) × Sought file s (rankKey x) 0 (left .lo) × (0 < margin)

@@ -1,10 +1,10 @@
--- `ordered::bisect` meets its contract: the search has passed nothing yet.
+-- `bisection::bisect` meets its contract: the search has passed nothing yet.
 use borrow.Author.Needs.{needs}
 use denote.Ref.{now}
 use Rattle.keys.specs.Ranks.{rankKey}
-use Rattle.ordered.proofs.OrderedLaws.{start, sought-none}
-use Rattle.ordered.proofs.bisect.Statement.{statement}
-use Rattle.ordered.proofs.bisect.Tie as tie
+use Rattle.bisection.proofs.SoughtLaws.{start, sought-none}
+use Rattle.bisection.proofs.bisect.Statement.{statement}
+use Rattle.bisection.proofs.bisect.Tie as tie
 
 narrow-requires : tie.Need-narrow-requires
 narrow-requires c κs =

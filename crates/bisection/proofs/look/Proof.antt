@@ -1,4 +1,4 @@
--- `ordered::look` meets its contract: a record with a lesser key is come to at once, and any other ends the looks behind it.
+-- `bisection::look` meets its contract: a record with a lesser key is come to at once, and any other ends the looks behind it.
 use mathlib.Core.Path.{sym, _∙_}
 use native.Mathlib.Omega.{arith}
 use borrow.Author.Needs.{needs}
@@ -6,9 +6,9 @@ use borrow.Author.Tests.{ltb-true}
 use denote.Ref.{now}
 use Rattle.keys.specs.Ranks.{rankKey}
 use Rattle.keys.proofs.KeyFileLaws.{key-here}
-use Rattle.ordered.proofs.OrderedLaws.{line-start, sought-far}
-use Rattle.ordered.proofs.look.Statement.{statement}
-use Rattle.ordered.proofs.look.Tie as tie
+use Rattle.bisection.proofs.SoughtLaws.{line-start, sought-far}
+use Rattle.bisection.proofs.look.Statement.{statement}
+use Rattle.bisection.proofs.look.Tie as tie
 
 key-at-requires : tie.Need-key-at-requires
 key-at-requires c κs =

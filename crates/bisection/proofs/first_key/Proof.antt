@@ -1,11 +1,11 @@
--- `ordered::first_key` asks for a key only where there is a record.
+-- `bisection::first_key` asks for a key only where there is a record.
 use native.Mathlib.Omega.{arith}
 use borrow.Author.Needs.{needs}
 use denote.Ref.{now}
 use Rattle.keys.proofs.KeyFileLaws.{key-here}
-use Rattle.ordered.proofs.OrderedLaws.{start}
-use Rattle.ordered.proofs.first_key.Statement.{statement}
-use Rattle.ordered.proofs.first_key.Tie as tie
+use Rattle.bisection.proofs.SoughtLaws.{start}
+use Rattle.bisection.proofs.first_key.Statement.{statement}
+use Rattle.bisection.proofs.first_key.Tie as tie
 
 key-at-requires : tie.Need-key-at-requires
 key-at-requires c κs =

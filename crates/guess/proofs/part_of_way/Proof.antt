@@ -1,10 +1,10 @@
--- `ordered::part_of_way` stays within its numbers: fewer than 4096 of 4096 parts are less than the whole.
+-- `guess::part_of_way` stays within its numbers: fewer than 4096 of 4096 parts are less than the whole.
 use Prim.Native.Nat.{ℕ, _*_, _/_, _≤_, _<_}
 use native.Mathlib.Nat.{mul-le-mul-left}
 use native.Mathlib.Omega.{arith}
 use borrow.Author.Needs.{needs}
-use Rattle.ordered.proofs.part_of_way.Statement.{statement}
-use Rattle.ordered.proofs.part_of_way.Tie as tie
+use Rattle.guess.proofs.part_of_way.Statement.{statement}
+use Rattle.guess.proofs.part_of_way.Tie as tie
 
 -- fewer than 4096 times n
 most : (n parts : ℕ) → parts < 4096 → n * parts ≤ n * 4095

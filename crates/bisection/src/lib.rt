@@ -1,12 +1,13 @@
-// A record of a file whose keys rise, by bisection on the file's bytes, with no memory beside them.
+// A record of a file whose keys rise, by bisection on the file's bytes, with no memory beside them. All of it is inner.
 use file::fields_of;
-use guess::next_look;
-use guess::wider;
 use keys::Key;
 use keys::key_at;
 use keys::less;
 use lines::line_after;
 use lines::record_after;
+use looks::Left;
+use looks::next_look;
+use looks::wider;
 ghost use mathlib.Core.Path.{_≡_};
 ghost use Prim.Native.Nat.{_≤_, _<_};
 ghost use lib.ListN.{length};
@@ -40,14 +41,6 @@ fn scan(file: u64, s: &[u8], from: usize, x: Key) -> usize
         at = next_of(file, s, at);
     }
     at
-}
-
-// What is left of a search: the record is sought from lo on, and none that starts from hi on is below it; and the keys that were seen.
-pub struct Left {
-    pub lo: usize,
-    pub hi: usize,
-    pub below: u64,
-    pub above: u64,
 }
 
 // One look: at the record behind the next LF from `mid` on.
@@ -101,7 +94,7 @@ pub fn narrow(file: u64, s: &[u8], from: Left, x: Key) -> usize
     let mut left = from;
     let mut margin: usize = 128;
     while left.lo + 128 < left.hi {
-        let mid = next_look(left.lo, left.hi, left.below, left.above, x.hi, margin);
+        let mid = next_look(left, x.hi, margin);
         left = look(file, s, left, mid, x);
         margin = wider(margin);
     }

@@ -1,5 +1,5 @@
 // The counts of an accepted batch: how many stops, lines, trips and trip stops it has.
-use hinted::count;
+use tally::count;
 ghost use Rattle.keys.specs.KeyFiles.{KeyFile};
 ghost use Rattle.counts.specs.Counted.{Counted};
 

@@ -20,13 +20,13 @@ use Rattle.lines.proofs.OrderLaws.{hit-anywhere, from-hit, from-end, place-risi
 use Rattle.lines.proofs.IndexLaws.{ranks-rise, places-rise}
 use Rattle.keys.specs.Keys.{keyFields, keyOf, none, ofTrip, third, firstWith, nextOf}
 use Rattle.keys.specs.Ranks.{rank, rankOf, rankKey, KeyIs, recordAt}
-use Rattle.keys.specs.KeyFiles.{KeyFile, KeysRise, PlaceIn, IsIndex, recordsFrom}
+use Rattle.keys.specs.KeyFiles.{KeyFile, KeysRise, PlaceIn, IsIndex, recordsFrom, entryRank}
 use Rattle.keys.specs.declared.Key.{Key}
 use Rattle.keys.proofs.KeyLaws.{trip-of, third-small, key-size}
 use Rattle.keys.proofs.KeyFileLaws.{key-here, here-small, keys-past, has-rank, first-with}
 use Rattle.ordered.proofs.OrderedLaws.{there-found, there-passed}
-use Rattle.hinted.specs.Hinted.{entryRank, Lower}
-use Rattle.hinted.proofs.HintedLaws.{lower-hit, entry-place}
+use Rattle.seek.specs.Seek.{Lower}
+use Rattle.seek.proofs.SeekLaws.{lower-hit, entry-place}
 use Rattle.find.specs.Find.{tripAt}
 use Rattle.find.proofs.FindLaws.{small-three}
 use Rattle.find.proofs.TripLaws.{three-fields, trip-end, rising-leads, index-leads, index-leads-none, leads-next}

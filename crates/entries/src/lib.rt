@@ -1,8 +1,8 @@
 // A trip's records one after another, by the entries of an index: where a walk begins, and from one entry to the neighbouring one.
 use following::if_of_trip;
-use hinted::lower;
 use keys::Key;
 use keys::key_at;
+use seek::lower;
 use walk::Found;
 ghost use mathlib.Core.Path.{_≡_};
 ghost use mathlib.Core.Bool.{true};
@@ -13,7 +13,7 @@ ghost use Rattle.file.specs.Records.{recordsIn};
 ghost use Rattle.keys.specs.Keys.{keyFields, none, ofTrip, third, nextOf};
 ghost use Rattle.keys.specs.KeyFiles.{KeyFile, PlaceIn, IsIndex};
 ghost use Rattle.keys.specs.Ranks.{recordAt};
-ghost use Rattle.hinted.specs.Hinted.{Lower};
+ghost use Rattle.seek.specs.Seek.{Lower};
 ghost use Rattle.previous.specs.Previous.{previousOf};
 ghost use Rattle.lookup.specs.Ways.{NoneUsed};
 ghost use Rattle.trail.specs.Trail.{stepOf, placeOf, begin, after};

@@ -20,13 +20,13 @@ use Rattle.lines.proofs.LineLaws.{size-one, Onward, place-on, place-start, next
 use Rattle.lines.proofs.OrderLaws.{hit-anywhere, from-place, from-rank}
 use Rattle.keys.specs.Keys.{keyFields, none, ofTrip, third, lesser, firstWith, nextNumber, nextOf}
 use Rattle.keys.specs.Ranks.{AllKeyed, rank, rankOf, rankKey, Numbers, IsKeyed, KeyIs, recordAt}
-use Rattle.keys.specs.KeyFiles.{KeyFile, KeysRise, PlaceIn, IsIndex, recordsFrom}
+use Rattle.keys.specs.KeyFiles.{KeyFile, KeysRise, PlaceIn, IsIndex, recordsFrom, entryRank}
 use Rattle.keys.specs.declared.Key.{Key}
 use Rattle.keys.proofs.TableLaws.{keyed-one, keyed-two, keyed-nine, keyed-three}
 use Rattle.keys.proofs.KeyLaws.{trip-of, of-trip, third-small, keyed-head, keyed-rest}
 use Rattle.keys.proofs.KeyFileLaws.{key-here, first-with}
-use Rattle.hinted.specs.Hinted.{entryRank, Lower}
-use Rattle.hinted.proofs.HintedLaws.{lower-hit, lower-least, entry-place}
+use Rattle.seek.specs.Seek.{Lower}
+use Rattle.seek.proofs.SeekLaws.{lower-hit, lower-least, entry-place}
 use Rattle.find.specs.Find.{tripAt}
 use Rattle.find.proofs.FindLaws.{small-three}
 

@@ -1,11 +1,11 @@
 // A record by its key, in three ways that meet one promise, `firstWith`: the first record that has the key, by its place, or none. Where keys
 // rise, the place that was found last and the one behind it are tried, then bisection; else a lent index, if there is one; else every record.
-use hinted::lower;
 use keys::Key;
 use keys::key_at;
 use search::among_rising;
 use search::at_entry;
 use search::by_search;
+use seek::lower;
 use walk::Found;
 ghost use mathlib.Core.Path.{_≡_};
 ghost use mathlib.Core.List.{[], _∷_};

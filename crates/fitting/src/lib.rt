@@ -1,4 +1,5 @@
 // Whether nothing is wrong with any record of a file whose keys are all different, by its index or in its own order: then it has no first fault.
+use ahead::list_goes_on;
 use clip::cut;
 use file::fields_of;
 use lookup::index_of;
@@ -57,6 +58,9 @@ pub fn all_fit<'a>(
     let mut places: [usize; 14] = [0; 14];
     let mut i = 0;
     while i < part.len() {
+        if !list_goes_on(s, part, i) {
+            return false;
+        }
         cut(s, part[i] as usize, n, class, &mut places);
         if !record_met(
             file,

@@ -1,10 +1,10 @@
 // The record of a trip that is next in key order, in the same three ways: where keys rise by bisection, by a lent index, record by record.
-use hinted::lower;
 use keys::Key;
 use keys::key_at;
 use lines::line_after;
 use ordered::first_from;
 use search::by_search;
+use seek::lower;
 use walk::Found;
 ghost use mathlib.Core.Path.{_≡_};
 ghost use lib.Dec.{eqb, leb};

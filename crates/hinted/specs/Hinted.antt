@@ -2,15 +2,8 @@
 -- a repeat, so that no two records have one key.
 use Prim.Native.Nat.{ℕ, _+_, _*_, _^_, _≤_, _<_}
 use mathlib.Core.List.{List}
-use lib.ListN.{length, getD}
-use Rattle.file.specs.Files.{fieldsOf}
-use Rattle.keys.specs.Ranks.{rankOf}
-use Rattle.keys.specs.KeyFiles.{IsIndex}
-use Rattle.lines.specs.Index.{rankAt}
-
--- the key at entry i, as a rank
-abbrev pub entryRank : ℕ → List ℕ → List ℕ → ℕ → ℕ
-entryRank file s order i = rankAt (fieldsOf file) (rankOf file) s (getD order i 0)
+use lib.ListN.{length}
+use Rattle.keys.specs.KeyFiles.{IsIndex, entryRank}
 
 -- each entry's key is above that of the entry before
 abbrev pub KeysApart : ℕ → List ℕ → List ℕ → Type 0
@@ -25,16 +18,3 @@ pub record Goes (j w k x how : ℕ) : Type 0 where
 pub record Looked (file : ℕ) (s order : List ℕ) (kind : ℕ) : Type 0 where
   pub index : 1 ≤ kind → IsIndex file s order
   pub apart : 2 ≤ kind → KeysApart file s order
-
--- entry m is the first whose key isn't below x
-pub record Lower (file : ℕ) (s order : List ℕ) (x m : ℕ) : Type 0 where
-  pub near : m ≤ length order
-  pub below : (i : ℕ) → i < m → entryRank file s order i < x
-  pub «from» : m < length order → x ≤ entryRank file s order m
-
--- that entry is none before lo and none behind hi
-pub record Between (file : ℕ) (s order : List ℕ) (x lo hi : ℕ) : Type 0 where
-  pub ends : lo ≤ hi
-  pub near : hi ≤ length order
-  pub below : (i : ℕ) → i < lo → entryRank file s order i < x
-  pub «from» : hi < length order → x ≤ entryRank file s order hi

@@ -1,14 +1,14 @@
 -- What is asked of a file whose records are found by their keys: it is legal, and each of its records has numbers in its key.
 use Prim.Native.Nat.{ℕ}
 use mathlib.Core.List.{List}
-use lib.ListN.{drop}
+use lib.ListN.{getD, drop}
 use Rattle.file.specs.Files.{fieldsOf}
 use Rattle.file.specs.Format.{Fields}
 use Rattle.file.specs.Records.{recordsIn}
 use Rattle.walk.specs.Walk.{LegalFrom}
 use Rattle.lines.specs.Lines.{Place}
 use Rattle.lines.specs.Order.{Rising}
-use Rattle.lines.specs.Index.{Index}
+use Rattle.lines.specs.Index.{Index, rankAt}
 use Rattle.keys.specs.Ranks.{IsKeyed, AllKeyed, rankOf}
 
 pub record KeyFile (file : ℕ) (s : List ℕ) : Type 0 where
@@ -31,3 +31,7 @@ PlaceIn file s at = Place (fieldsOf file) s at
 -- a list of places is an index of it by its keys
 abbrev pub IsIndex : ℕ → List ℕ → List ℕ → Type 0
 IsIndex file s order = Index (fieldsOf file) (rankOf file) s order
+
+-- the key at entry i of such a list, as a rank
+abbrev pub entryRank : ℕ → List ℕ → List ℕ → ℕ → ℕ
+entryRank file s order i = rankAt (fieldsOf file) (rankOf file) s (getD order i 0)

@@ -1,6 +1,5 @@
 // Files whose keys rise from record to record: one pass tells, and then a record is found by bisection on the file's bytes, with no memory
 // beside them. All of it is inner.
-use bisection::Left;
 use bisection::bisect;
 use bisection::narrow;
 use bisection::next_of;
@@ -8,6 +7,7 @@ use keys::Key;
 use keys::equal;
 use keys::key_at;
 use keys::less;
+use looks::Left;
 ghost use mathlib.Core.Path.{_≡_};
 ghost use Prim.Native.Nat.{_<_};
 ghost use Rattle.file.specs.Files.{fieldsOf};

@@ -1,9 +1,9 @@
 // The parts of the hint of a batch: where the records of each keyed file start, in order of their keys, for the files whose keys don't rise by
 // themselves, one file behind the other.
 use heap::sort;
-use hinted::count;
 use lines::line_after;
 use ordered::rising;
+use tally::count;
 use thirteen::file_of;
 ghost use mathlib.Core.Path.{_≡_};
 ghost use Prim.Native.Nat.{_+_, _≤_};

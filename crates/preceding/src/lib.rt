@@ -1,7 +1,6 @@
 // The record of a trip that comes before some number in key order, in three ways that meet one promise, `previousOf`, as `find` has it for the
 // next one: where keys rise, the line before the first record that is not below; else the entry before it in a lent index; else every record.
 use find::with_three;
-use hinted::lower;
 use keys::key_at;
 use lines::line_after;
 use ordered::first_from;
@@ -9,6 +8,7 @@ use previous::key_of;
 use previous::line_before;
 use previous::nearer;
 use previous::number_if_of_trip;
+use seek::lower;
 use walk::Found;
 ghost use mathlib.Core.Path.{_≡_};
 ghost use Prim.Native.Nat.{_+_, _*_, _-_, _≤_, _<_};

@@ -21,12 +21,12 @@ use Rattle.lines.proofs.OrderLaws.{hit-anywhere, from-place, from-rank, place-r
 use Rattle.lines.proofs.IndexLaws.{place-known, ranks-rise}
 use Rattle.keys.specs.Keys.{keyFields, none, ofTrip, third, firstWith}
 use Rattle.keys.specs.Ranks.{AllKeyed, rank, rankOf, Numbers, KeyIs, recordAt}
-use Rattle.keys.specs.KeyFiles.{KeyFile, KeysRise, PlaceIn, IsIndex, recordsFrom}
+use Rattle.keys.specs.KeyFiles.{KeyFile, KeysRise, PlaceIn, IsIndex, recordsFrom, entryRank}
 use Rattle.keys.specs.declared.Key.{Key}
 use Rattle.keys.proofs.KeyLaws.{trip-of, of-trip, third-small, keyed-head, keyed-rest}
 use Rattle.keys.proofs.KeyFileLaws.{key-here, first-with}
-use Rattle.hinted.specs.Hinted.{entryRank, Lower}
-use Rattle.hinted.proofs.HintedLaws.{entry-place}
+use Rattle.seek.specs.Seek.{Lower}
+use Rattle.seek.proofs.SeekLaws.{entry-place}
 use Rattle.find.proofs.FindLaws.{small-three}
 use Rattle.find.proofs.TripLaws.{three-fields, key-of-trip, key-not-of-trip, key-third, From, from-places, above-from}
 use Rattle.previous.specs.Previous.{greater, previousNumber, previousOf}

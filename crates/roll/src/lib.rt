@@ -2,9 +2,9 @@
 // tariff number. From one trip to the next goes `lines::line_after`.
 use field::value_of;
 use find::with_three;
-use hinted::count;
 use lines::line_after;
 use lookup::index_of;
+use tally::count;
 use walk::Found;
 use walk::cut;
 use walk::part;

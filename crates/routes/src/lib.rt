@@ -1,7 +1,7 @@
 // The ways to the records of a batch's keyed files, made out once: by rising keys, by a part of the lent list, or record by record.
-use hinted::count;
 use hinted::look_at;
 use ordered::rising;
+use tally::count;
 use thirteen::file_of;
 ghost use Prim.Native.Nat.{_≤_};
 ghost use lib.ListN.{length};

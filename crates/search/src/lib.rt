@@ -14,7 +14,7 @@ ghost use Rattle.keys.specs.Keys.{none};
 ghost use Rattle.keys.specs.Ranks.{rankOf, rankKey};
 ghost use Rattle.lines.specs.Order.{firstRanked};
 ghost use Rattle.keys.specs.KeyFiles.{KeyFile, KeysRise, PlaceIn, IsIndex};
-ghost use Rattle.hinted.specs.Hinted.{Lower};
+ghost use Rattle.seek.specs.Seek.{Lower};
 
 // inner: where keys rise
 pub fn among_rising(file: u64, s: &[u8], last: usize, k: Key) -> Found

@@ -1,18 +1,18 @@
 -- Tags: two that are the same number ask for the same, and what each field's tag asks for is so exactly if nothing is wrong with the field.
-use mathlib.Core.Path.{_≡_, refl, sym, ap, _∙_}
+use mathlib.Core.Path.{_≡_, refl, sym, _∙_}
 use mathlib.Core.Bool.{Bool, true, false}
-use mathlib.Core.List.{List, [], _∷_}
-use Prim.Native.Nat.{ℕ, _+_, _*_, _≤_, _<_}
+use mathlib.Core.List.{[], _∷_}
+use Prim.Native.Nat.{ℕ, _≤_, _<_}
 use native.Mathlib.Omega.{arith}
 use lib.Dec.{eqb}
 use lib.ListN.{length}
-use borrow.Author.Tests.{eqb-true, eq-eqb, ne-eqb}
-use Rattle.laws.specs.Tests.{pick, both, either}
+use borrow.Author.Tests.{eqb-true}
+use Rattle.laws.specs.Tests.{both, either}
 use Rattle.file.specs.Files.{fieldsOf}
 use Rattle.file.specs.Format.{Fields}
 use Rattle.field.specs.Names.{field}
 use Rattle.field.specs.Stage.{firstUnkind}
-use Rattle.field.specs.Values.{isEmpty, given, value}
+use Rattle.field.specs.Values.{isEmpty, value}
 use Rattle.field.proofs.ValueLaws.{digits-are}
 use Rattle.keys.specs.Keys.{numbers, has, none}
 use Rattle.link.specs.Links.{links, zasspoje, linkOf}

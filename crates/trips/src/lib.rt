@@ -1,4 +1,6 @@
 // The first trip of a batch, in Spoje order, whose days or stops are wrong: refusals 10 and 11.
+use ahead::list_goes_on;
+use ahead::walk_goes_on;
 use calling::stops_fit;
 use field::value_of;
 use lookup::index_of;
@@ -41,7 +43,20 @@ struct Tried {
     stop_entry: usize,
 }
 
-// What is wrong with the trip whose record was cut.
+// Before the first trip: the walks begin where the files do.
+fn none_tried() -> Tried
+    ensures { λ r. ⌜ (r .code ≡ 0) × (r .stop ≡ 0) ⌝ }
+{
+    Tried {
+        fault: 0,
+        code: 0,
+        code_entry: 0,
+        stop: 0,
+        stop_entry: 0,
+    }
+}
+
+// What is wrong with the trip whose record was cut; `last` is what was found of the one before.
 fn trip_fault(
     f6: &[u8],
     places: &[usize; 14],
@@ -50,13 +65,10 @@ fn trip_fault(
     f10: &[u8],
     order: &[u32],
     ways: &[usize],
-    code: usize,
-    code_entry: usize,
-    stop: usize,
-    stop_entry: usize,
+    last: Tried,
     class: &[u8; 256],
 ) -> Tried
-    requires { ⌜ Kinded tripsFile (now f6) (now places) × Ready codesFile (now f3) (now order) (now ways) × Ready tripStopsFile (now f8) (now order) (now ways) × Ready timeCodesFile (now f10) (now order) (now ways) × PlaceIn timeCodesFile (now f10) code × PlaceIn tripStopsFile (now f8) stop × Classes (now class) ⌝ }
+    requires { ⌜ Kinded tripsFile (now f6) (now places) × Ready codesFile (now f3) (now order) (now ways) × Ready tripStopsFile (now f8) (now order) (now ways) × Ready timeCodesFile (now f10) (now order) (now ways) × PlaceIn timeCodesFile (now f10) (last .code) × PlaceIn tripStopsFile (now f8) (last .stop) × Classes (now class) ⌝ }
     ensures { λ r. ⌜ (r .fault ≡ plainFault (recordsIn (fieldsOf codesFile) (now (f3 .entry))) (recordsIn (fieldsOf tripStopsFile) (now (f8 .entry))) (recordsIn (fieldsOf timeCodesFile) (now (f10 .entry))) (texts tripsFile (now (f6 .entry)) (now (places .entry)))) × PlaceIn timeCodesFile (now (f10 .entry)) (r .code) × PlaceIn tripStopsFile (now (f8 .entry)) (r .stop) ⌝ }
 {
     let line = value_of(part(f6, places, 0));
@@ -70,8 +82,8 @@ fn trip_fault(
         f10,
         order,
         ways,
-        code,
-        code_entry,
+        last.code,
+        last.code_entry,
         class,
     );
     if !d.fit {
@@ -79,11 +91,20 @@ fn trip_fault(
             fault: 10,
             code: d.last,
             code_entry: d.entry,
-            stop: stop,
-            stop_entry: stop_entry,
+            stop: last.stop,
+            stop_entry: last.stop_entry,
         };
     }
-    let s = stops_fit(f8, order, ways, stop, stop_entry, line, trip, class);
+    let s = stops_fit(
+        f8,
+        order,
+        ways,
+        last.stop,
+        last.stop_entry,
+        line,
+        trip,
+        class,
+    );
     let fault = if s.fit { 0 } else { 11 };
     Tried {
         fault: fault,
@@ -110,40 +131,40 @@ fn first_timed(
     let mut places: [usize; 14] = [0; 14];
     let mut k: u64 = 1;
     let mut at: usize = 0;
-    let mut code: usize = 0;
-    let mut code_entry: usize = 0;
-    let mut stop: usize = 0;
-    let mut stop_entry: usize = 0;
+    let mut tried = none_tried();
     while at < f6.len() {
         let next = cut(f6, at, 12, class, &mut places);
-        let t = trip_fault(
-            f6,
-            &places,
-            f3,
-            f8,
-            f10,
-            order,
-            ways,
-            code,
-            code_entry,
-            stop,
-            stop_entry,
-            class,
-        );
-        if t.fault == 10 {
+        tried = trip_fault(f6, &places, f3, f8, f10, order, ways, tried, class);
+        if tried.fault == 10 {
             return Timed::Days(k);
         }
-        if t.fault == 11 {
+        if tried.fault == 11 {
             return Timed::Stops(k);
         }
-        code = t.code;
-        code_entry = t.code_entry;
-        stop = t.stop;
-        stop_entry = t.stop_entry;
         k += 1;
         at = next;
     }
     Timed::Sound
+}
+
+// Looks at the trips, stops and time codes that come next by their indexes, where there are some; nothing rests on it.
+fn goes_on(
+    f6: &[u8],
+    trips: &[u32],
+    i: usize,
+    f8: &[u8],
+    stops: &[u32],
+    f10: &[u8],
+    codes: &[u32],
+    tried: Tried,
+) -> bool {
+    if !list_goes_on(f6, trips, i) {
+        return false;
+    }
+    if !walk_goes_on(f8, stops, tried.stop_entry) {
+        return false;
+    }
+    walk_goes_on(f10, codes, tried.code_entry)
 }
 
 // Whether nothing is wrong with any trip, gone through in the order of the index of Spoje, where a trip's stops and time codes stand beside those of
@@ -164,31 +185,17 @@ fn all_timed(
     if part.len() == 0 {
         return false;
     }
+    let stops = index_of(order, ways, 8);
+    let codes = index_of(order, ways, 10);
     let mut places: [usize; 14] = [0; 14];
     let mut i = 0;
-    let mut tried = Tried {
-        fault: 0,
-        code: 0,
-        code_entry: 0,
-        stop: 0,
-        stop_entry: 0,
-    };
+    let mut tried = none_tried();
     while i < part.len() {
+        if !goes_on(f6, part, i, f8, stops, f10, codes, tried) {
+            return false;
+        }
         cut(f6, part[i] as usize, 12, class, &mut places);
-        tried = trip_fault(
-            f6,
-            &places,
-            f3,
-            f8,
-            f10,
-            order,
-            ways,
-            tried.code,
-            tried.code_entry,
-            tried.stop,
-            tried.stop_entry,
-            class,
-        );
+        tried = trip_fault(f6, &places, f3, f8, f10, order, ways, tried, class);
         if tried.fault != 0 {
             return false;
         }

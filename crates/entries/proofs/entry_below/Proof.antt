@@ -5,7 +5,7 @@ use native.Mathlib.Omega.{arith}
 use borrow.Author.Needs.{needs}
 use denote.Ref.{now}
 use Rattle.walk.specs.declared.Found.{Found}
-use Rattle.hinted.proofs.HintedLaws.{entry-place}
+use Rattle.seek.proofs.SeekLaws.{entry-place}
 use Rattle.trail.specs.Trail.{placeOf}
 use Rattle.entries.proofs.StepLaws.{entry-first, entry-previous}
 use Rattle.entries.proofs.entry_below.Statement.{statement}

@@ -6,7 +6,7 @@ use borrow.Author.Needs.{needs}
 use denote.Ref.{now}
 use Rattle.keys.specs.Keys.{none}
 use Rattle.keys.specs.Ranks.{rankKey}
-use Rattle.hinted.specs.Hinted.{Lower}
+use Rattle.seek.specs.Seek.{Lower}
 use Rattle.trail.specs.Trail.{stepOf}
 use Rattle.entries.proofs.first_entry.Statement.{statement}
 use Rattle.entries.proofs.first_entry.Tie as tie

@@ -8,7 +8,7 @@ use Rattle.keys.specs.Keys.{third}
 use Rattle.keys.specs.Ranks.{recordAt}
 use Rattle.keys.proofs.KeyLaws.{third-small}
 use Rattle.keys.proofs.KeyFileLaws.{key-here}
-use Rattle.hinted.proofs.HintedLaws.{entry-place}
+use Rattle.seek.proofs.SeekLaws.{entry-place}
 use Rattle.trail.specs.Trail.{stepOf}
 use Rattle.entries.proofs.StepLaws.{lower-up, lower-down}
 use Rattle.entries.proofs.next_entry.Statement.{statement}

@@ -5,7 +5,7 @@ use borrow.Author.Needs.{needs}
 use lib.ListN.{length, getD}
 use denote.Ref.{now}
 use Rattle.keys.specs.Ranks.{rankKey}
-use Rattle.hinted.proofs.HintedLaws.{entry-place}
+use Rattle.seek.proofs.SeekLaws.{entry-place}
 use Rattle.find.proofs.TripLaws.{trip-end, index-leads, index-leads-none, leads-next}
 use Rattle.following.proofs.next_by_index.Statement.{statement}
 use Rattle.following.proofs.next_by_index.Tie as tie

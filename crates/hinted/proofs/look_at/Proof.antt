@@ -5,7 +5,7 @@ use lib.ListN.{length, getD}
 use denote.Ref.{now}
 use borrow.Author.Tests.{not-false}
 use Rattle.keys.proofs.KeyFileLaws.{key-here}
-use Rattle.hinted.proofs.HintedLaws.{Seen, seen-first, seen-more, seen-all, seen-none}
+use Rattle.hinted.proofs.HintedLaws.{Seen, looked-none, seen-first, seen-more, seen-all, seen-none}
 use Rattle.hinted.proofs.look_at.Statement.{statement}
 use Rattle.hinted.proofs.look_at.Tie as tie
 
@@ -27,7 +27,7 @@ is-start-requires : tie.Need-is-start-requires Inv-loop μ-loop
 is-start-requires c κs = (c .before .before .before .before .pre .0, omega (arith, c .shared-slice-known3 .given 0))
 
 returns-2 : tie.Need-returns-2 Inv-loop μ-loop
-returns-2 c = record { index = λ q. absurd (omega arith); apart = λ q. absurd (omega arith) }
+returns-2 c = looked-none _ _ _
 
 key-at-requires : tie.Need-key-at-requires Inv-loop μ-loop
 key-at-requires c κs =
@@ -43,47 +43,55 @@ loop-holds c =
     seen-first (a .file) (now (a .s)) (now (a .order)) (c .key-at .result) (omega arith) w (c .key-at .ensures)
 
 cast-x : tie.Need-cast-x Inv-loop μ-loop
-cast-x c = omega (arith, c .shared-slice-known4 .given (c .before .before .loop .i))
+cast-x c = omega (arith, c .shared-slice-known4 .given (c .before .before .before .before .loop .i))
 
 is-start-requires-2 : tie.Need-is-start-requires-2 Inv-loop μ-loop
 is-start-requires-2 c κs =
-    let p = c .before .before in
+    let p = c .before .before .before .before in
     (p .before .before .before .before .before .before .before .before .pre .0, omega (arith, c .shared-slice-known4 .given (p .loop .i)))
 
 returns-3 : tie.Need-returns-3 Inv-loop μ-loop
-returns-3 c = record { index = λ q. absurd (omega arith); apart = λ q. absurd (omega arith) }
+returns-3 c = looked-none _ _ _
+
+returns-4 : tie.Need-returns-4 Inv-loop μ-loop
+returns-4 c = looked-none _ _ _
 
 key-at-requires-2 : tie.Need-key-at-requires-2 Inv-loop μ-loop
 key-at-requires-2 c κs =
-    let p = c .before .before .before .before in
+    let p = c .before .before .before .before .before .before in
     let b = p .before .before .before .before .before .before .before .before in
     let a = b .args in
-    let w = c .before .is-start2 .ensures (not-false _ (c .if3 .left)) in
+    let w = c .before .is-start2 .ensures (not-false _ (c .if4 .left)) in
     key-here (a .file) (now (a .s)) (getD (now (a .order)) (p .loop .i) 0) (b .pre .0) (w .place) (w .within)
 
 step-requires : tie.Need-step-requires Inv-loop μ-loop
 step-requires c κs =
-    let l = c .before .before .before .before .before .loop in
-    let w = c .before .before .is-start2 .ensures (not-false _ (c .before .if3 .left)) in
+    let l = c .before .before .before .before .before .before .before .loop in
+    let w = c .before .before .is-start2 .ensures (not-false _ (c .before .if4 .left)) in
     let v = l .inv .good (l .i - 1) (omega (arith, l .inv .some)) .start in
     (l .inv .key .low, c .key-at2 .ensures .low, omega (arith, l .inv .entry, v .small), w .small)
 
-returns-4 : tie.Need-returns-4 Inv-loop μ-loop
-returns-4 c = record { index = λ q. absurd (omega arith); apart = λ q. absurd (omega arith) }
+returns-5 : tie.Need-returns-5 Inv-loop μ-loop
+returns-5 c = looked-none _ _ _
+
+add-i : tie.Need-add-i Inv-loop μ-loop
+add-i c =
+    let p = c .before .before .before .before .before .before .before .before .before in
+    omega (arith, p .loop-test .taken, p .before .before .before .before .before .before .before .before .before .good .1)
 
 loop-again : tie.Need-loop-again Inv-loop μ-loop
 loop-again c =
     let q = c .before .before .before in
-    let p = q .before .before .before .before .before in
+    let p = q .before .before .before .before .before .before .before in
     let l = p .loop in
     let a = p .before .before .before .before .before .before .before .before .args in
-    let w = q .before .before .is-start2 .ensures (not-false _ (q .before .if3 .left)) in
-    seen-more (a .file) (now (a .s)) (now (a .order)) (l .was) (l .last) (l .kind) (l .i) (l .inv) (omega arith)
+    let w = q .before .before .is-start2 .ensures (not-false _ (q .before .if4 .left)) in
+    seen-more (a .file) (now (a .s)) (now (a .order)) (l .was) (l .last) (l .kind) (l .i) (l .inv) (omega (arith, q .before .before .before .before .before .before .loop-test .taken))
     (q .key-at2 .result) (c .before .before .step .result) (c .lesser .result) w (q .key-at2 .ensures) (c .before .before .step .ensures)
     (omega arith) (c .lesser .ensures .0) (c .lesser .ensures .1)
 
-returns-5 : tie.Need-returns-5 Inv-loop μ-loop
-returns-5 c =
+returns-6 : tie.Need-returns-6 Inv-loop μ-loop
+returns-6 c =
     let p = c .before in
     let l = p .loop in
     let b = p .before .before .before .before .before .before .before .before in
@@ -103,16 +111,18 @@ look-at-spec =
     returns-2
     key-at-requires
     loop-holds
+    (λ c κs. omega arith)  -- list-goes-on-requires
+    returns-3
     (λ c. omega arith)  -- mul-x
     (λ c. omega arith)  -- shared-slice-read-x
     cast-x
     is-start-requires-2
-    returns-3
+    returns-4
     key-at-requires-2
     step-requires
-    returns-4
+    returns-5
     (λ c κs. omega arith)  -- lesser-requires
-    (λ c. omega arith)  -- add-i
+    add-i
     (λ c. omega arith)  -- loop-less
     loop-again
-    returns-5)
+    returns-6)

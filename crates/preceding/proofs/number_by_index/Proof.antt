@@ -6,8 +6,8 @@ use borrow.Author.Needs.{needs}
 use lib.ListN.{getD}
 use denote.Ref.{now}
 use Rattle.keys.specs.Keys.{none}
-use Rattle.hinted.specs.Hinted.{Lower}
-use Rattle.hinted.proofs.HintedLaws.{entry-place}
+use Rattle.seek.specs.Seek.{Lower}
+use Rattle.seek.proofs.SeekLaws.{entry-place}
 use Rattle.previous.proofs.PreviousLaws.{index-trails, index-first, number-none, trails-number}
 use Rattle.preceding.proofs.number_by_index.Statement.{statement}
 use Rattle.preceding.proofs.number_by_index.Tie as tie

@@ -7,7 +7,7 @@ use lib.ListN.{getD}
 use denote.Ref.{now}
 use Rattle.keys.specs.Ranks.{rankKey}
 use Rattle.keys.proofs.KeyFileLaws.{key-here}
-use Rattle.hinted.proofs.HintedLaws.{entry-place, lower-hit, lower-miss}
+use Rattle.seek.proofs.SeekLaws.{entry-place, lower-hit, lower-miss}
 use Rattle.search.proofs.at_entry.Statement.{statement}
 use Rattle.search.proofs.at_entry.Tie as tie
 

@@ -1,5 +1,5 @@
 -- `tags::code_tag` meets its contract: only Zasspoje's second code is compared with another.
-use mathlib.Core.Path.{_≡_, refl, sym, ap, subst, _∙_}
+use mathlib.Core.Path.{_≡_, sym, ap, _∙_}
 use mathlib.Core.Bool.{false}
 use Prim.Native.Nat.{ℕ, _<_}
 use native.Mathlib.Omega.{arith}
@@ -11,10 +11,10 @@ use Rattle.file.specs.Format.{Text, Fields}
 use Rattle.field.specs.Names.{field}
 use Rattle.field.specs.Values.{isEmpty, value}
 use Rattle.keys.specs.Keys.{none}
-use Rattle.rules.specs.Texts.{texts, Kinded}
+use Rattle.rules.specs.Texts.{texts}
 use Rattle.amiss.proofs.RecordLaws.{Numeral, code-field, code-part}
 use Rattle.amiss.proofs.AmissLaws.{other-file, other-field}
-use Rattle.tags.specs.Tags.{tag, Tagged}
+use Rattle.tags.specs.Tags.{tag}
 use Rattle.tags.proofs.TagLaws.{code-tagged, alone-sign}
 use Rattle.tags.proofs.code_tag.Statement.{statement}
 use Rattle.tags.proofs.code_tag.Tie as tie

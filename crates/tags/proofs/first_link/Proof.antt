@@ -1,9 +1,8 @@
 -- `tags::first_link` meets its contract, file by file: one test that is computed over the fields before it.
 use mathlib.Core.Path.{_≡_, refl}
-use mathlib.Core.List.{List, []}
+use mathlib.Core.List.{[]}
 use Prim.Native.Nat.{ℕ, zero, suc, _+_, _≤_, _<_}
 use native.Mathlib.Omega.{arith}
-use borrow.Author.Needs.{needs}
 use Rattle.link.specs.Links.{links, linksIn, linkOf, zastavky, linky, zasspoje, caskody, altdop}
 use Rattle.link.specs.declared.Link.{Link}
 use Rattle.link.proofs.MatchLaws.{free-below}

@@ -1,5 +1,5 @@
 -- `tags::seat_tag` meets its contract: trip 0 asks for nothing, and any other for the trip of that line.
-use mathlib.Core.Path.{_≡_, refl, sym, ap, _∙_}
+use mathlib.Core.Path.{refl, sym, ap, _∙_}
 use Prim.Native.Nat.{ℕ, _<_}
 use borrow.Author.Needs.{needs}
 use denote.Ref.{now}

@@ -3,6 +3,7 @@
 use mathlib.Core.Path.{sym, _∙_}
 use Prim.Native.Nat.{_-_}
 use native.Mathlib.Omega.{arith}
+use borrow.Author.Needs.{needs}
 use lib.ListN.{length}
 use denote.Ref.{now}
 use Rattle.file.specs.Files.{fieldsOf, fieldCounts}
@@ -16,23 +17,23 @@ use Rattle.trips.proofs.first_timed.Statement.{statement}
 use Rattle.trips.proofs.first_timed.Tie as tie
 
 abbrev Inv-loop : tie.InvT-loop
-Inv-loop f3 f6 f8 f10 order ways class places₀ k₀ at₀ code₀ codeEntry₀ stop₀ stopEntry₀ places k at code codeEntry stop stopEntry =
-    Left (recordsIn (fieldsOf 3) f3) (recordsIn (fieldsOf 8) f8) (recordsIn (fieldsOf 10) f10) f6 at k × PlaceIn 10 f10 code × PlaceIn 8 f8 stop
+Inv-loop f3 f6 f8 f10 order ways class places₀ k₀ at₀ tried₀ places k at tried =
+    Left (recordsIn (fieldsOf 3) f3) (recordsIn (fieldsOf 8) f8) (recordsIn (fieldsOf 10) f10) f6 at k × PlaceIn 10 f10 (tried .code) × PlaceIn 8 f8 (tried .stop)
 
 abbrev μ-loop : tie.MeasureT-loop
-μ-loop f3 f6 f8 f10 order ways class places₀ k₀ at₀ code₀ codeEntry₀ stop₀ stopEntry₀ places k at code codeEntry stop stopEntry = length f6 - at
+μ-loop f3 f6 f8 f10 order ways class places₀ k₀ at₀ tried₀ places k at tried = length f6 - at
 
 loop-holds : tie.Need-loop-holds Inv-loop μ-loop
 loop-holds c =
-    let start = c .before .before .before .before .before .before in
+    let start = c .before .before .before .before .before .before .before in
     let a = start .args in
     let p = start .pre in
-    (left-start _ _ _ (now (a .f6)) (p .1 .key .legal), place-start (fieldsOf 10) (now (a .f10)) (p .3 .key .legal), place-start (fieldsOf 8) (now (a .f8)) (p .2 .key .legal))
+    (left-start _ _ _ (now (a .f6)) (p .1 .key .legal), rw (c .none-tried .ensures .0) (place-start (fieldsOf 10) (now (a .f10)) (p .3 .key .legal)), rw (c .none-tried .ensures .1) (place-start (fieldsOf 8) (now (a .f8)) (p .2 .key .legal)))
 
 -- from the head of the loop: how the function began
 module _ (l : tie.At-loop Inv-loop μ-loop) where
   abbrev start : tie.Start Inv-loop μ-loop
-  start = l .before .before .before .before .before .before .before
+  start = l .before .before .before .before .before .before .before .before
 
 cut-requires : tie.Need-cut-requires Inv-loop μ-loop
 unfolding fieldsOf fieldCounts
@@ -100,6 +101,7 @@ first-timed-spec =
     (tie.spec
     Inv-loop
     μ-loop
+    (λ c κs. search needs)  -- none-tried-requires
     loop-holds
     cut-requires
     trip-fault-requires

@@ -7,7 +7,7 @@
 #   kit                      the folder of the Rattle kit that `rt` belongs to
 #   CC, CXX, NM, LINK, RUN   the compilers and nm for x86-64, what they are told when they link, and what runs their programs (arrays)
 #   PROGRAM                  what runs a program of the crates, which is linked with the C library of x86-64: on another machine the kit's own (array)
-#   archive NAME             proves the crate and leaves target/staticlib/libNAME.a
+#   archive NAME             proves the crate and leaves target/staticlib/libNAME.a, unless the one that is there was made of the same sources
 #   program NAME             proves the program and leaves target/bin/NAME
 #
 # Programs over the archive are for x86-64. On another machine they are compiled by a cross compiler, linked statically, since there is no x86-64
@@ -97,8 +97,18 @@ quietly() {
     rm -f "$log"
 }
 
+# What an archive is made of, the kit and the crates, and the archive itself, each as one number.
+made_of() {
+    { rt version; cat crates.txt; find crates -type f \( -path '*/src/*' -o -path '*/specs/*' -o -path '*/proofs/*' \) -print0 | sort -z | xargs -0 sha256sum; } | sha256sum
+    sha256sum < "target/staticlib/lib$1.a"
+}
+
 archive() {
-    quietly rt staticlib "$1"
+    local mark=target/staticlib/$1.made
+    if [ -f "target/staticlib/lib$1.a" ] && [ -f "$mark" ] && [ "$(cat "$mark")" = "$(made_of "$1")" ]; then return 0; fi
+    rm -f "$mark"
+    quietly rt staticlib "$1" || return 1
+    made_of "$1" > "$mark"
 }
 
 program() {

@@ -6,6 +6,9 @@ ghost use mathlib.Core.Path.{_≡_};
 // How many records of a file are compared with the one before.
 const FIRST: usize = 32;
 
+// How many bytes of a file are looked at: the first records stand there, and a file that has none may be of any length.
+const REACH: usize = 65_536;
+
 // What digits are worth, or the last nine of them, where there are more; and the place behind the last.
 struct Seen {
     value: u64,
@@ -85,8 +88,8 @@ fn comes_before(x: Numbers, y: Numbers) -> bool {
     x.third < y.third
 }
 
-// Whether the keys of a file's first records seem to rise.
-fn seems_rising(s: &[u8]) -> bool {
+// Whether the keys of the first records seem to rise.
+fn first_rise(s: &[u8]) -> bool {
     let mut at = 0;
     let mut last = numbers_seen(s, 0);
     let mut n = 0;
@@ -107,6 +110,15 @@ fn seems_rising(s: &[u8]) -> bool {
         n += 1;
     }
     true
+}
+
+// The same of a file, however long it is.
+fn seems_rising(s: &[u8]) -> bool {
+    if s.len() > REACH {
+        let beginning = &s[..REACH];
+        return first_rise(beginning);
+    }
+    first_rise(s)
 }
 
 // inner: whether the keys of the files seem to rise, Zastavky to Caskody

@@ -1,31 +1,21 @@
--- `glance::seems_rising` is safe and ends: so many records are compared, and no more.
-use Prim.Native.Nat.{_-_}
+-- `glance::seems_rising` stays within the file: its beginning is taken only where it is longer.
+use mathlib.Core.Path.{sym}
 use native.Mathlib.Omega.{arith}
+use lib.Seq.{length-take-le}
+use denote.Ref.{now}
 use borrow.Author.Needs.{needs}
 use Rattle.glance.proofs.seems_rising.Statement.{statement}
 use Rattle.glance.proofs.seems_rising.Tie as tie
 
-abbrev Inv-loop : tie.InvT-loop
-Inv-loop s at₀ last₀ n₀ at last n = Unit
-
-abbrev μ-loop : tie.MeasureT-loop
-μ-loop s at₀ last₀ n₀ at last n = 32 - n
+slice-aggregate-beginning : tie.Need-slice-aggregate-beginning
+slice-aggregate-beginning c = sym (length-take-le 65536 (now (c .before .before .before .args .s)) (omega (arith, c .before .if1 .taken)))
 
 pub seems-rising-spec : {M : Type 1} → statement M
 seems-rising-spec =
     tie.close
     (tie.spec
-    Inv-loop
-    μ-loop
-    (λ c κs. search needs)  -- numbers-seen-requires
-    (λ c. tt)  -- loop-holds
-    (λ c. tt)  -- returns
-    (λ c κs. omega arith)  -- line-after-requires
-    (λ c. tt)  -- returns-2
-    (λ c κs. search needs)  -- numbers-seen-requires-2
-    (λ c κs. search needs)  -- comes-before-requires
-    (λ c. tt)  -- returns-3
-    (λ c. omega arith)  -- add-n
-    (λ c. omega arith)  -- loop-less
-    (λ c. tt)  -- loop-again
-    (λ c. tt))  -- returns-4
+    slice-aggregate-beginning
+    (λ c κs. search needs)  -- first-rise-requires
+    (λ c. search needs)  -- returns
+    (λ c κs. search needs)  -- first-rise-requires-2
+    (λ c. search needs))  -- returns-2

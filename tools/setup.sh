@@ -82,7 +82,8 @@ else
     CXX=(x86_64-linux-gnu-g++)
     NM=(x86_64-linux-gnu-nm)
     LINK=(-static)
-    RUN=("$kit/on/$machine/toolchain/bin/qemu-x86_64")
+    # The emulator does `rep stos` byte by byte. Without erms the C library clears memory in another way, a hundred times as fast there.
+    RUN=("$kit/on/$machine/toolchain/bin/qemu-x86_64" -cpu max,-erms)
     PROGRAM=("${RUN[@]}" "$kit/on/$machine/toolchain/lib/ld-linux-x86-64.so.2" --library-path "$kit/on/$machine/toolchain/lib")
 fi
 

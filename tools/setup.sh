@@ -9,6 +9,7 @@
 #   PROGRAM                  what runs a program of the crates, which is linked with the C library of x86-64: on another machine the kit's own (array)
 #   archive NAME             proves the crate and leaves target/staticlib/libNAME.a, unless the one that is there was made of the same sources
 #   program NAME             proves the program and leaves target/bin/NAME
+# Scripts that run at the same time may call these two: one waits for the other.
 #
 # Programs over the archive are for x86-64. On another machine they are compiled by a cross compiler, linked statically, since there is no x86-64
 # C library to load, and run under the kit's emulator.
@@ -49,6 +50,7 @@ need_header() {
 
 need_c() {
     need make make
+    need flock util-linux
     if [ "$machine" = x86_64 ]; then
         need gcc gcc libc6-dev
     else
@@ -104,7 +106,16 @@ made_of() {
     sha256sum < "target/staticlib/lib$1.a"
 }
 
-archive() {
+# One at a time: rt keeps what it has found of a crate in files of target/, and two would write to the same ones.
+by_itself() {
+    mkdir -p target
+    (
+        flock 9
+        "$@"
+    ) 9> target/lock
+}
+
+make_archive() {
     local mark=target/staticlib/$1.made
     if [ -f "target/staticlib/lib$1.a" ] && [ -f "$mark" ] && [ "$(cat "$mark")" = "$(made_of "$1")" ]; then return 0; fi
     rm -f "$mark"
@@ -112,6 +123,10 @@ archive() {
     made_of "$1" > "$mark"
 }
 
+archive() {
+    by_itself make_archive "$1"
+}
+
 program() {
-    quietly rt check "$1"
+    by_itself quietly rt check "$1"
 }

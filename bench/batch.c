@@ -29,6 +29,7 @@ enum {
 
 static uint64_t state;
 
+/* Each call changes what the next one gives: no two stand in one expression or argument list, whose order a compiler chooses. */
 static uint64_t below(uint64_t end)
 {
     state ^= state << 13;
@@ -161,6 +162,7 @@ static void make_stops(void)
     uint32_t number = 0;
     size_t i;
     int czech, codes;
+    const char *town, *place;
     char text[64], given[8];
     file = ZASTAVKY;
     for (i = 0; i < stop_count; i++) {
@@ -169,9 +171,11 @@ static void make_stops(void)
         czech = !one_in(30);
         put_number(number, 0);
         put_text(any(towns), 0);
-        sprintf(text, "%s %u", any(towns), (unsigned)below(90));
+        town = any(towns);
+        sprintf(text, "%s %u", town, (unsigned)below(90));
         put_text(one_in(4) ? "" : text, 0);
-        sprintf(text, "%s %u", any(places), (unsigned)below(900));
+        place = any(places);
+        sprintf(text, "%s %u", place, (unsigned)below(900));
         put_text(one_in(5) ? "" : text, 0);
         put_text(czech ? "BK" : "", 0);
         put_text(czech ? "CZ" : "SK", 0);
@@ -198,6 +202,7 @@ static void make_carriers(void)
     uint32_t number = 10000000;
     size_t i;
     int person;
+    const char *town, *place;
     char text[80];
     file = DOPRAVCI;
     for (i = 0; i < carrier_count; i++) {
@@ -211,7 +216,9 @@ static void make_carriers(void)
         put_text(text, 0);
         put_text(person ? "2" : "1", 0);
         put_text(person ? "Jan Nov\xE1k" : "", 0);
-        sprintf(text, "%s, %s %u", any(towns), any(places), (unsigned)below(2000));
+        town = any(towns);
+        place = any(places);
+        sprintf(text, "%s, %s %u", town, place, (unsigned)below(2000));
         put_text(text, 0);
         put_text("532 123 456", 0);
         put_text("", 0);
@@ -238,13 +245,17 @@ struct line {
 
 static void make_line(struct line *line, uint32_t number)
 {
+    const char *first, *second, *third;
     char text[80];
     int i;
     uint32_t tariff = 0, lines, n;
     line->number = number;
     file = LINKY;
     put_number(number, 0);
-    sprintf(text, "%s - %s - %s", any(towns), any(towns), any(towns));
+    first = any(towns);
+    second = any(towns);
+    third = any(towns);
+    sprintf(text, "%s - %s - %s", first, second, third);
     put_text(text, 0);
     put_number(any_carrier(), 0);
     put((char[]){one_of("ABVWZZZ")}, 1, 0);
@@ -386,13 +397,16 @@ static void put_time_code(uint32_t line, uint32_t trip, uint32_t number, const c
 /* The days of a trip: codes in Spoje, and records in Caskody that go together, all with one mark. */
 static void make_days(uint32_t line, uint32_t trip)
 {
+    const char *access, *luggage;
     char mark[4], day[8] = "", given[12], parity;
     uint32_t number = 0;
     int kind = (int)below(10), i;
     sprintf(mark, "%u", 10 + (unsigned)below(70));
     if (kind != 0)
         strcpy(day, one_in(2) ? "X" : one_in(2) ? "+6" : one_in(3) ? "135" : "");
-    sprintf(given, "%s%s%s", day, one_in(3) ? "@" : "", one_in(4) ? "[s" : "");
+    access = one_in(3) ? "@" : "";
+    luggage = one_in(4) ? "[s" : "";
+    sprintf(given, "%s%s%s", day, access, luggage);
     file = SPOJE;
     put_number(line, 0);
     put_number(trip, 0);

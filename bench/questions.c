@@ -26,8 +26,8 @@ static const uint8_t *some_record(const struct batch *batch, unsigned file)
 static struct plain_question sale(const struct batch *batch)
 {
     const uint8_t *record = some_record(batch, SPOJE);
-    uint64_t near = 1 + below(6), far = near + 1 + below(4);
-    struct plain_question q = {batch_number(record, 1), batch_number(record, 2), 1 + below(28), 6 + below(6), 2001, near, far};
+    uint64_t near = 1 + below(6), far = near + 1 + below(4), day = 1 + below(28), month = 6 + below(6);
+    struct plain_question q = {batch_number(record, 1), batch_number(record, 2), day, month, 2001, near, far};
     if (q.trip % 2 == 0 || below(20) == 0) {
         q.from = far;
         q.to = near;

@@ -1,9 +1,7 @@
-// What a field of each kind may hold, and the values of digits: document 01, "Fields". Which field is of which kind stands in the crate `kinds`.
-mod admits;
+// The kinds of fields, and the values of digits: document 01, "Fields". What a field of each kind may hold is tried in the crate `admits`; which field is of which
+// kind stands in the crate `kinds`.
 mod values;
 
-pub use admits::admits_text;
-pub use admits::is_sized;
 pub use values::all_digits;
 pub use values::day_of;
 pub use values::is_byte;

@@ -5,7 +5,7 @@ ghost use Rattle.walk.specs.Walk.{Parted, cutRecord};
 ghost use Rattle.file.specs.Records.{recordsIn};
 ghost use Rattle.field.specs.Stage.{firstUnkind, fieldFault};
 ghost use Rattle.fields.specs.Check.{Ready, numberedChecked, CheckedIs};
-use field::admits_text;
+use admits::admits_text;
 use file::Counted;
 use file::Refusal;
 use file::classes;

@@ -1,9 +1,9 @@
--- `field::admits::maybe_digits` meets its contract: the text is empty, or so many digits.
+-- `admits::maybe_digits` meets its contract: the text is empty, or so many digits.
 use borrow.Author.Needs.{needs}
 use Rattle.laws.specs.Tests.{tests}
 use Rattle.field.specs.Kinds.{admits}
-use Rattle.field.proofs.admits.maybe_digits.Statement.{statement}
-use Rattle.field.proofs.admits.maybe_digits.Tie as tie
+use Rattle.admits.proofs.maybe_digits.Statement.{statement}
+use Rattle.admits.proofs.maybe_digits.Tie as tie
 
 returns : tie.Need-returns
 unfolding admits

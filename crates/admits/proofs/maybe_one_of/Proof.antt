@@ -1,8 +1,8 @@
--- `field::admits::maybe_one_of` meets its contract: the text is empty, or one byte of the set.
+-- `admits::maybe_one_of` meets its contract: the text is empty, or one byte of the set.
 use borrow.Author.Needs.{needs}
 use Rattle.laws.specs.Tests.{tests}
-use Rattle.field.proofs.admits.maybe_one_of.Statement.{statement}
-use Rattle.field.proofs.admits.maybe_one_of.Tie as tie
+use Rattle.admits.proofs.maybe_one_of.Statement.{statement}
+use Rattle.admits.proofs.maybe_one_of.Tie as tie
 
 returns : tie.Need-returns
 returns c = search tests

@@ -1,9 +1,9 @@
--- `field::admits::admits_text` meets its contract: each arm asks what the definition asks of its kind.
+-- `admits::admits_text` meets its contract: each arm asks what the definition asks of its kind.
 use mathlib.Core.Path.{_∙_}
 use borrow.Author.Needs.{needs}
 use Rattle.field.specs.Kinds.{admits, signs, lineTypes}
-use Rattle.field.proofs.admits.admits_text.Statement.{statement}
-use Rattle.field.proofs.admits.admits_text.Tie as tie
+use Rattle.admits.proofs.admits_text.Statement.{statement}
+use Rattle.admits.proofs.admits_text.Tie as tie
 
 returns : tie.Need-returns
 unfolding admits

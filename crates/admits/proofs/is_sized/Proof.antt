@@ -1,7 +1,7 @@
--- `field::admits::is_sized` meets its contract: each branch answers one test of the definition.
+-- `admits::is_sized` meets its contract: each branch answers one test of the definition.
 use Rattle.laws.specs.Tests.{tests}
-use Rattle.field.proofs.admits.is_sized.Statement.{statement}
-use Rattle.field.proofs.admits.is_sized.Tie as tie
+use Rattle.admits.proofs.is_sized.Statement.{statement}
+use Rattle.admits.proofs.is_sized.Tie as tie
 
 returns : tie.Need-returns
 returns c = search tests

@@ -1,9 +1,9 @@
--- `field::admits::maybe_date` meets its contract: the text is empty, or a date.
+-- `admits::maybe_date` meets its contract: the text is empty, or a date.
 use borrow.Author.Needs.{needs}
 use Rattle.laws.specs.Tests.{tests}
 use Rattle.field.specs.Kinds.{admits}
-use Rattle.field.proofs.admits.maybe_date.Statement.{statement}
-use Rattle.field.proofs.admits.maybe_date.Tie as tie
+use Rattle.admits.proofs.maybe_date.Statement.{statement}
+use Rattle.admits.proofs.maybe_date.Tie as tie
 
 returns : tie.Need-returns
 unfolding admits

@@ -1,15 +1,18 @@
-// What each kind of field admits: document 01, "Fields". All of it is inner: what each function means is its definition in
+// What each kind of field admits: document 01, "Fields". All of it is inner: what each function means is its definition in the crate `field`,
 // specs/Kinds.antt and specs/Values.antt.
-use super::Kind;
-use super::values;
+use field::Kind;
+use field::is_date;
+use field::is_digits;
+use field::is_one_of;
+use field::is_time;
 ghost use mathlib.Core.Path.{_≡_};
 ghost use lib.ListN.{length};
 ghost use Rattle.laws.specs.Tests.{oneOf};
 ghost use Rattle.field.specs.Values.{isEmpty, among, sized};
 ghost use Rattle.field.specs.Kinds.{admits};
 
-// inner: the length is one of a to b
-pub fn is_sized(t: &[u8], a: usize, b: usize) -> bool
+// The length is one of a to b.
+fn is_sized(t: &[u8], a: usize, b: usize) -> bool
     ensures { λ r. ⌜ r ≡ sized a b (now (t .entry)) ⌝ }
 {
     if t.len() < a {
@@ -24,7 +27,7 @@ fn maybe_digits(t: &[u8], a: usize, b: usize) -> bool
     if t.len() == 0 {
         return true;
     }
-    values::is_digits(t, a, b)
+    is_digits(t, a, b)
 }
 
 fn maybe_date(t: &[u8]) -> bool
@@ -33,7 +36,7 @@ fn maybe_date(t: &[u8]) -> bool
     if t.len() == 0 {
         return true;
     }
-    values::is_date(t)
+    is_date(t)
 }
 
 fn maybe_one_of(t: &[u8], set: &[u8]) -> bool
@@ -42,7 +45,7 @@ fn maybe_one_of(t: &[u8], set: &[u8]) -> bool
     if t.len() == 0 {
         return true;
     }
-    values::is_one_of(t, set)
+    is_one_of(t, set)
 }
 
 // HHMM, or `|`, `<`, or empty.
@@ -52,7 +55,7 @@ fn is_time_field(t: &[u8]) -> bool
     if maybe_one_of(t, b"|<") {
         return true;
     }
-    values::is_time(t)
+    is_time(t)
 }
 
 // inner: a text of this kind
@@ -60,15 +63,15 @@ pub fn admits_text(kind: Kind, t: &[u8]) -> bool
     ensures { λ r. ⌜ r ≡ admits kind (now (t .entry)) ⌝ }
 {
     match kind {
-        Kind::Digits(a, b) => values::is_digits(t, a, b),
+        Kind::Digits(a, b) => is_digits(t, a, b),
         Kind::MaybeDigits(a, b) => maybe_digits(t, a, b),
         Kind::Text(a, b) => is_sized(t, a, b),
-        Kind::Date => values::is_date(t),
+        Kind::Date => is_date(t),
         Kind::MaybeDate => maybe_date(t),
         Kind::Time => is_time_field(t),
-        Kind::Sign => values::is_one_of(t, b"X+1234567R#|<@%Wwx~I()${}[Ovs\xA7"),
-        Kind::Firm => values::is_one_of(t, b"12"),
-        Kind::LineType => values::is_one_of(t, b"ABMNPVWZ"),
+        Kind::Sign => is_one_of(t, b"X+1234567R#|<@%Wwx~I()${}[Ovs\xA7"),
+        Kind::Firm => is_one_of(t, b"12"),
+        Kind::LineType => is_one_of(t, b"ABMNPVWZ"),
         Kind::CodeType => maybe_one_of(t, b"12345678"),
         Kind::WeekType => maybe_one_of(t, b"56"),
         Kind::None => false,

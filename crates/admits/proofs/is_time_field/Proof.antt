@@ -1,10 +1,10 @@
--- `field::admits::is_time_field` meets its contract: the text is empty or one of the two bytes, or a time.
+-- `admits::is_time_field` meets its contract: the text is empty or one of the two bytes, or a time.
 use mathlib.Core.Path.{_∙_}
 use borrow.Author.Needs.{needs}
 use Rattle.field.specs.Kinds.{admits}
 use Rattle.field.proofs.AdmitLaws.{of-three}
-use Rattle.field.proofs.admits.is_time_field.Statement.{statement}
-use Rattle.field.proofs.admits.is_time_field.Tie as tie
+use Rattle.admits.proofs.is_time_field.Statement.{statement}
+use Rattle.admits.proofs.is_time_field.Tie as tie
 
 returns : tie.Need-returns
 unfolding admits

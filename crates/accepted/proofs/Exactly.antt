@@ -27,9 +27,10 @@ use Rattle.kept.proofs.TripStops.{stops-exactly}
 use Rattle.kept.proofs.RuleLaws.{rule-no-pass}
 use Rattle.fault.specs.OneResult.{fault-no-values}
 use Rattle.filefaults.specs.Faults.{versionFault}
-use Rattle.alone.specs.Order.{lengthFault, bytesFault, firstFault}
-use Rattle.alone.proofs.FileLaws.{not-long}
-use Rattle.alone.proofs.OrderLaws.{first-each}
+use Rattle.overfiles.specs.OneFile.{lengthFault, bytesFault}
+use Rattle.overfiles.proofs.FileLaws.{not-long}
+use Rattle.filestages.specs.Order.{firstFault}
+use Rattle.filestages.proofs.OrderLaws.{first-each}
 use Rattle.batch.specs.Order.{stages, faultOf}
 use Rattle.outcome.specs.Answers.{numberedVerdict}
 use Rattle.outcome.specs.declared.Verdict.{Verdict}

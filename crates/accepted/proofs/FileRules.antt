@@ -19,8 +19,8 @@ use Rattle.keys.proofs.KeyLaws.{same-self, same-equal}
 use Rattle.thirteen.specs.Batch.{Batch, fileIn, recordsOf, overFiles}
 use Rattle.link.proofs.TableLaws.{record-length}
 use Rattle.filefaults.specs.Faults.{outcomeFault, isVersion, versionFault}
-use Rattle.alone.specs.Order.{lengthFault, bytesFault}
-use Rattle.alone.proofs.FileLaws.{some-fields, short-enough}
+use Rattle.overfiles.specs.OneFile.{lengthFault, bytesFault}
+use Rattle.overfiles.proofs.FileLaws.{some-fields, short-enough}
 
 -- no fault in any of several files, from the first of them on
 pub each-over : (fault : ℕ → Numbered) (file count : ℕ) → ((i : ℕ) → i < count → fault (file + i) .number ≡ 0) → overFiles fault file count .number ≡ 0

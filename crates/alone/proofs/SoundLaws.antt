@@ -13,9 +13,10 @@ use Rattle.walk.specs.Walk.{LegalFrom}
 use Rattle.sweep.specs.Sweep.{SoundFrom}
 use Rattle.filefaults.specs.Faults.{outcomeFault, versionFault}
 use Rattle.filefaults.specs.Version.{RightVersion}
-use Rattle.alone.specs.Order.{lengthFault, bytesFault, firstFault, fileStages}
+use Rattle.overfiles.specs.OneFile.{lengthFault, bytesFault}
+use Rattle.overfiles.proofs.FileLaws.{short-enough}
+use Rattle.filestages.specs.Order.{firstFault, fileStages}
 use Rattle.alone.specs.Sound.{SoundFile, SoundFiles}
-use Rattle.alone.proofs.FileLaws.{short-enough}
 
 -- the file that was chosen by its number is sound
 pub sound-file : (b : Batch) (file n : ℕ) (s : List ℕ) → s ≡ fileIn b file → n ≡ fieldsOf file → length s ≤ longest → SoundFrom file n s 0 → SoundFile file (fileIn b file)

@@ -13,7 +13,7 @@ use Rattle.file.specs.declared.Refusal.{Refusal}
 use Rattle.thirteen.specs.Batch.{Batch}
 use Rattle.fault.specs.Answers.{numberedFault}
 use Rattle.fault.specs.declared.Fault.{Fault}
-use Rattle.alone.specs.Order.{firstFault, fileStages}
+use Rattle.filestages.specs.Order.{firstFault, fileStages}
 use Rattle.parts.specs.Parts.{hintOf}
 use Rattle.arrange.specs.Hint.{hintAnswer, hintList, numberedHint, HintIs}
 use Rattle.arrange.specs.declared.Arranged.{Arranged}

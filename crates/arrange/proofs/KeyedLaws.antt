@@ -17,9 +17,10 @@ use Rattle.thirteen.specs.Batch.{Batch, fileIn, recordsOf}
 use Rattle.thirteen.proofs.OverLaws.{over-each}
 use Rattle.lines.proofs.LineLaws.{all-permitted}
 use Rattle.link.proofs.KindOfLinks.{keyed-kinds}
-use Rattle.alone.specs.Order.{lengthFault, firstFault, fileStages}
-use Rattle.alone.proofs.FileLaws.{some-fields, not-long, legal-files}
-use Rattle.alone.proofs.OrderLaws.{first-each}
+use Rattle.overfiles.specs.OneFile.{lengthFault}
+use Rattle.overfiles.proofs.FileLaws.{some-fields, not-long, legal-files}
+use Rattle.filestages.specs.Order.{firstFault, fileStages}
+use Rattle.filestages.proofs.OrderLaws.{first-each}
 use Rattle.parts.specs.Keyed.{KeyedFiles}
 
 -- records in whose fields nothing is found have numbers in their keys

@@ -10,7 +10,7 @@ use Rattle.laws.specs.Numbered.{Numbered, answered, refused}
 use Rattle.laws.specs.Splice.{splice}
 use Rattle.thirteen.specs.Batch.{Batch, orElse}
 use Rattle.fault.specs.Answers.{numberedFault}
-use Rattle.alone.specs.Order.{firstFault, fileStages}
+use Rattle.filestages.specs.Order.{firstFault, fileStages}
 use Rattle.parts.specs.Parts.{hintOf}
 use Rattle.arrange.specs.declared.Arranged.{Arranged}
 

@@ -17,9 +17,9 @@ use Rattle.trips.specs.Standing.{Standing}
 use Rattle.link.proofs.LinkingLaws.{linked}
 use Rattle.link.proofs.SignedLaws.{signed}
 use Rattle.batch.specs.Order.{stages, faultOf}
-use Rattle.alone.proofs.FileLaws.{legal-files}
+use Rattle.overfiles.proofs.FileLaws.{legal-files}
 use Rattle.batch.proofs.SoundLaws.{sound-files}
-use Rattle.alone.proofs.OrderLaws.{first-each}
+use Rattle.filestages.proofs.OrderLaws.{first-each}
 
 -- no fault of several files is an answer with no values
 over-zero : (fault : ℕ → Numbered) (file count : ℕ) → overFiles fault file count .number ≡ 0 → overFiles fault file count ≡ answered []

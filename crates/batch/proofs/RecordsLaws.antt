@@ -24,14 +24,14 @@ use Rattle.trips.specs.Plain.{plainFrom}
 use Rattle.trips.proofs.PlainLaws.{plain-trips}
 use Rattle.trips.proofs.ReadyLaws.{ready-file}
 use Rattle.fault.specs.Answers.{numberedFault}
-use Rattle.alone.specs.Order.{firstFault, fileStages}
+use Rattle.filestages.specs.Order.{firstFault, fileStages}
 use Rattle.batch.specs.Order.{stages, faultOf}
 use Rattle.fault.specs.declared.Fault.{Fault}
 use Rattle.batch.proofs.AcceptedLaws.{no-links}
 use Rattle.smooth.specs.Smooth.{Smooth}
 use Rattle.smooth.proofs.SmoothLaws.{smooth-stages, smooth-sound, smooth-links}
 use Rattle.fault.proofs.FaultLaws.{is-some, is-zero}
-use Rattle.alone.proofs.OrderLaws.{first-one, first-past}
+use Rattle.filestages.proofs.OrderLaws.{first-one, first-past}
 
 -- where links are met, the trips' fault is that of the stages behind 6
 trips-left : (b : Batch) → linksFault b ≡ answered [] → (g : Fault) → numberedFault g ≡ tripsFault b → numberedFault g ≡ firstFault (drop 4 (stages b))

@@ -12,7 +12,7 @@ use Rattle.field.specs.Stage.{firstUnkind, recordFault, faultsFrom, fieldFault}
 use Rattle.amiss.specs.Sound.{SoundFiles}
 use Rattle.thirteen.specs.Batch.{Batch, recordsOf, overFiles}
 use Rattle.thirteen.proofs.OverLaws.{over-each}
-use Rattle.alone.specs.Legal.{LegalFiles}
+use Rattle.overfiles.specs.Legal.{LegalFiles}
 
 -- no fault of a file's records but `answered []` has number 0
 faults-settled : (file k : ℕ) (rs : List Fields) → faultsFrom file k rs .number ≡ 0 → faultsFrom file k rs ≡ answered []

@@ -5,7 +5,8 @@ use Rattle.laws.specs.Numbered.{Numbered}
 use Rattle.field.specs.Stage.{fieldFault}
 use Rattle.thirteen.specs.Batch.{Batch, recordsOf, overFiles}
 use Rattle.filefaults.specs.Faults.{versionFault}
-use Rattle.alone.specs.Order.{lengthFault, bytesFault, firstFault}
+use Rattle.overfiles.specs.OneFile.{lengthFault, bytesFault}
+use Rattle.filestages.specs.Order.{firstFault}
 use Rattle.link.specs.Stage.{linksFault}
 use Rattle.trip.specs.Stage.{tripsFault}
 

@@ -21,7 +21,7 @@ ghost use Rattle.thirteen.specs.Batch.{thirteen};
 ghost use Rattle.lookup.specs.Ways.{Ways};
 ghost use Rattle.amiss.specs.Sound.{SoundFiles};
 ghost use Rattle.fault.specs.Answers.{numberedFault};
-ghost use Rattle.alone.specs.Order.{firstFault};
+ghost use Rattle.filestages.specs.Order.{firstFault};
 ghost use Rattle.batch.specs.Order.{stages, faultOf};
 ghost use Rattle.batch.specs.Verdicts.{VerdictIs};
 

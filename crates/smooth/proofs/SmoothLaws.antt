@@ -8,9 +8,10 @@ use Rattle.link.specs.Stage.{linksFault}
 use Rattle.amiss.specs.Sound.{SoundFiles}
 use Rattle.thirteen.specs.Batch.{Batch, fileIn, overFiles}
 use Rattle.thirteen.proofs.OverLaws.{over-each}
-use Rattle.alone.specs.Order.{lengthFault, firstFault, fileStages}
+use Rattle.overfiles.specs.OneFile.{lengthFault}
+use Rattle.overfiles.proofs.FileLaws.{not-long}
+use Rattle.filestages.specs.Order.{firstFault, fileStages}
 use Rattle.filefaults.specs.Version.{RightVersion}
-use Rattle.alone.proofs.FileLaws.{not-long}
 use Rattle.alone.proofs.SoundLaws.{stages-none}
 use Rattle.smooth.specs.Smooth.{RisingWays, AllPassed, ShortFiles, Smooth}
 use Rattle.smooth.proofs.OrderlyLaws.{orderly-sound}

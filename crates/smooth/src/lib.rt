@@ -1,10 +1,10 @@
 // The check of a batch whose keys rise, each file gone through once: none of 1 to 9 is found. Only that nothing is wrong is said
 // here; where something may be, or where keys don't rise, the files are gone through stage by stage as document 01 orders. A file comes behind those
 // that it links to: first Pevnykod and Dopravci, then Zastavky and Linky, then Spoje and Zaslinky, then the others.
-use alone::first_long;
 use fault::is_none;
 use filefaults::is_right_version;
 use glance::seem_rising;
+use overfiles::first_long;
 use passage::passes;
 use thirteen::file_of;
 ghost use mathlib.Core.Path.{_≡_};

@@ -9,12 +9,12 @@ use Rattle.laws.specs.Numbered.{Numbered, answered}
 use Rattle.links.proofs.KeyedLaws.{sound-keys}
 use Rattle.amiss.specs.Sound.{SoundFiles}
 use Rattle.thirteen.specs.Batch.{Batch, thirteen}
-use Rattle.alone.specs.Order.{fileStages}
+use Rattle.overfiles.proofs.FileLaws.{legal-files}
+use Rattle.filestages.specs.Order.{fileStages}
 use Rattle.batch.specs.Order.{stages, faultOf}
-use Rattle.alone.proofs.FileLaws.{legal-files}
 use Rattle.batch.proofs.SoundLaws.{sound-files}
 use Rattle.fault.proofs.FaultLaws.{is-some}
-use Rattle.alone.proofs.OrderLaws.{stages-stop, stages-past, stages-zero}
+use Rattle.filestages.proofs.OrderLaws.{stages-stop, stages-past, stages-zero}
 use Rattle.batch.proofs.check_in_order.Statement.{statement}
 use Rattle.batch.proofs.check_in_order.Tie as tie
 

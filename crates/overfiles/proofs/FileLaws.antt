@@ -1,14 +1,14 @@
--- What the code asks a file says of its fault: its length, its reading, its fields; and which files are legal then.
-use mathlib.Core.Path.{_≡_, refl, _∙_}
-use mathlib.Core.Bool.{true}
+-- What the code asks a file says of its fault: its length, its reading, its fields; whether it is the first; and which files are legal then.
+use mathlib.Core.Path.{_≡_, refl, sym, _∙_}
+use mathlib.Core.Bool.{Bool, true, false, not}
 use mathlib.Core.List.{List, []}
 use Prim.Native.Nat.{ℕ, _+_, _-_, _≤_, _<_}
 use native.Mathlib.Omega.{arith}
-use lib.Dec.{leb}
+use lib.Dec.{eqb, leb}
 use lib.ListN.{length}
 use borrow.Author.Tests.{le-leb, lt-leb, leb-true}
 use Rattle.laws.specs.Tests.{both-true, either}
-use Rattle.laws.specs.Numbered.{answered, refusedAt}
+use Rattle.laws.specs.Numbered.{Numbered, answered, refusedAt}
 use Rattle.file.specs.Files.{isFile, fieldsOf, longest}
 use Rattle.file.specs.Reading.{reading}
 use Rattle.file.specs.Records.{recordsIn}
@@ -19,13 +19,14 @@ use Rattle.fields.specs.Check.{Ready, numberedChecked}
 use Rattle.fields.specs.declared.Checked.{Checked}
 use Rattle.fields.proofs.StageLaws.{fields-few}
 use Rattle.thirteen.specs.Batch.{Batch, fileIn, recordsOf, overFiles}
-use Rattle.thirteen.proofs.OverLaws.{over-each}
+use Rattle.thirteen.proofs.OverLaws.{over-next, over-stop, over-each}
 use Rattle.fault.specs.Answers.{numberedFault}
-use Rattle.alone.specs.Legal.{LegalFiles}
+use Rattle.fault.specs.declared.Fault.{Fault}
+use Rattle.fault.proofs.FaultLaws.{is-some, is-zero}
 use Rattle.filefaults.specs.Faults.{outcomeFault}
 use Rattle.filefaults.proofs.VersionLaws.{outcome-whole}
-use Rattle.alone.specs.Order.{lengthFault, bytesFault}
-use Rattle.fault.specs.declared.Fault.{Fault}
+use Rattle.overfiles.specs.Legal.{LegalFiles}
+use Rattle.overfiles.specs.OneFile.{lengthFault, bytesFault}
 
 -- the numbers 1 to 13 are those of files
 pub is-file : (file : ℕ) → 1 ≤ file → file ≤ 13 → isFile file ≡ true
@@ -64,6 +65,14 @@ module _ (b : Batch) (file : ℕ) (s : List ℕ) (e : s ≡ fileIn b file) where
           few = rw z (fields-few file (is-file file h l));
           legal = rw (z, e) (legal file h l);
         }
+
+-- the test of a file's fault: it is the first of those from its file on, or the next file's counts
+module _ (f : Fault) (r : Bool) (t : r ≡ eqb (numberedFault f .number) 0) (fault : ℕ → Numbered) (file : ℕ) (l : file < 14) (e : numberedFault f ≡ fault file) where
+  pub files-stop : not r ≡ true → numberedFault f ≡ overFiles fault file (14 - file)
+  files-stop h = e ∙ sym (over-stop fault file l (λ z. is-some f r t h (rw e z)))
+
+  pub files-next : not r ≡ false → overFiles fault file (14 - file) ≡ overFiles fault (file + 1) (14 - (file + 1))
+  files-next h = over-next fault file l (rw e at (is-zero f r t h))
 
 -- a file with no fault of its length isn't too long
 pub not-long : (b : Batch) (file : ℕ) → lengthFault b file .number ≡ 0 → length (fileIn b file) ≤ longest

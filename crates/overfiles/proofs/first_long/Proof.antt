@@ -1,4 +1,4 @@
--- `alone::first_long` meets its contract. The loop's invariant: the first fault from `file` on is the first of all.
+-- `overfiles::first_long` meets its contract. The loop's invariant: the first fault from `file` on is the first of all.
 use mathlib.Core.Path.{_≡_, refl, sym, ap, _∙_}
 use Prim.Native.Nat.{_-_, _≤_}
 use native.Mathlib.Omega.{arith}
@@ -9,10 +9,10 @@ use Rattle.file.specs.Answers.{numbered}
 use Rattle.thirteen.specs.Batch.{Batch, thirteen, overFiles}
 use Rattle.thirteen.proofs.OverLaws.{over-next, over-stop, over-done}
 use Rattle.fault.specs.Answers.{numberedFault}
-use Rattle.alone.specs.Order.{lengthFault}
-use Rattle.alone.proofs.FileLaws.{too-long, short-enough}
-use Rattle.alone.proofs.first_long.Statement.{statement}
-use Rattle.alone.proofs.first_long.Tie as tie
+use Rattle.overfiles.specs.OneFile.{lengthFault}
+use Rattle.overfiles.proofs.FileLaws.{too-long, short-enough}
+use Rattle.overfiles.proofs.first_long.Statement.{statement}
+use Rattle.overfiles.proofs.first_long.Tie as tie
 
 abbrev Inv-loop : tie.InvT-loop
 Inv-loop f1 f2 f3 f4 f5 f6 f7 f8 f9 f10 f11 f12 f13 file₀ file =

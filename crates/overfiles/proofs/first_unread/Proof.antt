@@ -1,17 +1,16 @@
--- `alone::first_unread` meets its contract. The loop's invariant: the first fault from `file` on is the first of all.
+-- `overfiles::first_unread` meets its contract. The loop's invariant: the first fault from `file` on is the first of all.
 use mathlib.Core.Path.{_≡_, refl, sym, _∙_}
 use Prim.Native.Nat.{_-_, _≤_}
 use native.Mathlib.Omega.{arith}
 use borrow.Author.Needs.{needs}
 use denote.Ref.{now}
-use Rattle.alone.specs.Order.{bytesFault}
-use Rattle.alone.proofs.FileLaws.{some-fields, read-fault}
-use Rattle.alone.proofs.OrderLaws.{files-stop, files-next}
+use Rattle.overfiles.specs.OneFile.{bytesFault}
+use Rattle.overfiles.proofs.FileLaws.{some-fields, read-fault, files-stop, files-next}
 use Rattle.thirteen.specs.Batch.{Batch, thirteen, overFiles}
 use Rattle.thirteen.proofs.OverLaws.{over-done}
 use Rattle.fault.specs.Answers.{numberedFault}
-use Rattle.alone.proofs.first_unread.Statement.{statement}
-use Rattle.alone.proofs.first_unread.Tie as tie
+use Rattle.overfiles.proofs.first_unread.Statement.{statement}
+use Rattle.overfiles.proofs.first_unread.Tie as tie
 
 abbrev Inv-loop : tie.InvT-loop
 Inv-loop f1 f2 f3 f4 f5 f6 f7 f8 f9 f10 f11 f12 f13 file₀ file =

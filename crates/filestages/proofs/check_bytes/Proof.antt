@@ -1,13 +1,14 @@
--- `alone::check_bytes` meets its contract: the lengths of all files come first, then their bytes.
+-- `filestages::check_bytes` meets its contract: the lengths of all files come first, then their bytes.
 use mathlib.Core.Path.{sym, _∙_}
 use borrow.Author.Needs.{needs}
 use lib.ListN.{take}
 use denote.Ref.{now}
 use Rattle.thirteen.specs.Batch.{Batch, thirteen, overFiles}
-use Rattle.alone.specs.Order.{lengthFault, bytesFault, fileStages}
-use Rattle.alone.proofs.OrderLaws.{first-one, stages-stop, stages-past}
-use Rattle.alone.proofs.check_bytes.Statement.{statement}
-use Rattle.alone.proofs.check_bytes.Tie as tie
+use Rattle.overfiles.specs.OneFile.{lengthFault, bytesFault}
+use Rattle.filestages.specs.Order.{fileStages}
+use Rattle.filestages.proofs.OrderLaws.{first-one, stages-stop, stages-past}
+use Rattle.filestages.proofs.check_bytes.Statement.{statement}
+use Rattle.filestages.proofs.check_bytes.Tie as tie
 
 -- the batch that was lent
 abbrev files : tie.After-first-long → Batch

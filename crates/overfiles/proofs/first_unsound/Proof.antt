@@ -1,4 +1,4 @@
--- `alone::first_unsound` meets its contract. The loop's invariant: the first fault from `file` on is the first of all.
+-- `overfiles::first_unsound` meets its contract. The loop's invariant: the first fault from `file` on is the first of all.
 use mathlib.Core.Path.{_≡_, refl, sym, _∙_}
 use Prim.Native.Nat.{ℕ, _-_, _≤_}
 use native.Mathlib.Omega.{arith}
@@ -6,13 +6,12 @@ use borrow.Author.Needs.{needs}
 use denote.Ref.{now}
 use Rattle.laws.specs.Numbered.{Numbered}
 use Rattle.field.specs.Stage.{fieldFault}
-use Rattle.alone.proofs.FileLaws.{sound-fault, ready-file}
-use Rattle.alone.proofs.OrderLaws.{files-stop, files-next}
+use Rattle.overfiles.proofs.FileLaws.{sound-fault, ready-file, files-stop, files-next}
 use Rattle.thirteen.specs.Batch.{Batch, thirteen, recordsOf, overFiles}
 use Rattle.thirteen.proofs.OverLaws.{over-done}
 use Rattle.fault.specs.Answers.{numberedFault}
-use Rattle.alone.proofs.first_unsound.Statement.{statement}
-use Rattle.alone.proofs.first_unsound.Tie as tie
+use Rattle.overfiles.proofs.first_unsound.Statement.{statement}
+use Rattle.overfiles.proofs.first_unsound.Tie as tie
 
 -- a file's fault
 abbrev faultIn : Batch → ℕ → Numbered

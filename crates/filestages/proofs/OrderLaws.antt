@@ -2,27 +2,17 @@
 use mathlib.Core.Path.{_≡_, refl, sym, _∙_}
 use mathlib.Core.Bool.{Bool, true, false, not}
 use mathlib.Core.List.{List, [], _∷_}
-use Prim.Native.Nat.{ℕ, zero, suc, _+_, _-_, _<_}
+use Prim.Native.Nat.{ℕ, zero, suc, _<_}
 use native.Mathlib.Omega.{arith}
 use lib.Dec.{eqb}
 use lib.ListN.{length, getD, take, drop}
 use borrow.Author.Tests.{eqb-true, eqb-false}
 use Rattle.laws.specs.Tests.{either}
 use Rattle.laws.specs.Numbered.{Numbered, answered}
-use Rattle.thirteen.specs.Batch.{overFiles}
-use Rattle.thirteen.proofs.OverLaws.{over-next, over-stop}
 use Rattle.fault.specs.Answers.{numberedFault}
 use Rattle.fault.specs.declared.Fault.{Fault}
 use Rattle.fault.proofs.FaultLaws.{none-zero, is-some, is-zero}
-use Rattle.alone.specs.Order.{firstFault}
-
--- the test of a file's fault: it is the first of those from its file on, or the next file's counts
-module _ (f : Fault) (r : Bool) (t : r ≡ eqb (numberedFault f .number) 0) (fault : ℕ → Numbered) (file : ℕ) (l : file < 14) (e : numberedFault f ≡ fault file) where
-  pub files-stop : not r ≡ true → numberedFault f ≡ overFiles fault file (14 - file)
-  files-stop h = e ∙ sym (over-stop fault file l (λ z. is-some f r t h (rw e z)))
-
-  pub files-next : not r ≡ false → overFiles fault file (14 - file) ≡ overFiles fault (file + 1) (14 - (file + 1))
-  files-next h = over-next fault file l (rw e at (is-zero f r t h))
+use Rattle.filestages.specs.Order.{firstFault}
 
 -- the first of several faults: where that of the first n has number 0, the others count, else it is that of all
 pub first-past : (n : ℕ) (xs : List Numbered) → firstFault (take n xs) .number ≡ 0 → firstFault xs ≡ firstFault (drop n xs)

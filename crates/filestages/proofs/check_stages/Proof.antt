@@ -1,4 +1,4 @@
--- `alone::check_stages` meets its contract: the bytes of all files come first, then the version, then the fields.
+-- `filestages::check_stages` meets its contract: the bytes of all files come first, then the version, then the fields.
 use mathlib.Core.Path.{_≡_, sym, _∙_}
 use native.Mathlib.Omega.{arith}
 use borrow.Author.Needs.{needs}
@@ -7,12 +7,12 @@ use denote.Ref.{now}
 use Rattle.file.specs.Files.{fieldCounts, fieldsOf}
 use Rattle.field.specs.Stage.{fieldFault}
 use Rattle.thirteen.specs.Batch.{Batch, thirteen, fileIn, recordsOf, overFiles}
-use Rattle.alone.specs.Legal.{LegalFiles}
-use Rattle.alone.specs.Order.{firstFault, fileStages}
-use Rattle.alone.proofs.FileLaws.{legal-files}
-use Rattle.alone.proofs.OrderLaws.{first-one, stages-stop, stages-past, stages-zero}
-use Rattle.alone.proofs.check_stages.Statement.{statement}
-use Rattle.alone.proofs.check_stages.Tie as tie
+use Rattle.overfiles.specs.Legal.{LegalFiles}
+use Rattle.overfiles.proofs.FileLaws.{legal-files}
+use Rattle.filestages.specs.Order.{firstFault, fileStages}
+use Rattle.filestages.proofs.OrderLaws.{first-one, stages-stop, stages-past, stages-zero}
+use Rattle.filestages.proofs.check_stages.Statement.{statement}
+use Rattle.filestages.proofs.check_stages.Tie as tie
 
 -- the batch that was lent
 abbrev files : tie.After-check-bytes → Batch

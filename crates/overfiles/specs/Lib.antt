@@ -1,0 +1,2 @@
+pub mod OneFile
+pub mod Legal

@@ -18,7 +18,8 @@ use Rattle.lines.proofs.OrderLaws.{is-rising}
 use Rattle.keys.specs.Ranks.{IsKeyed, rankOf, rankKey}
 use Rattle.keys.specs.declared.Key.{Key}
 use Rattle.rules.specs.Texts.{texts}
-use Rattle.sweep.specs.Sweep.{ReadTo, Fielded, SoundFrom}
+use Rattle.readany.specs.Reads.{ReadTo}
+use Rattle.sweep.specs.Sweep.{Fielded, SoundFrom}
 use Rattle.sweep.proofs.SoundLaws.{sound-end, sound-step, records}
 use Rattle.link.specs.Stage.{fieldAmiss}
 use Rattle.thirteen.specs.Batch.{Batch}

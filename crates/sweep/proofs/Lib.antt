@@ -1,3 +1,2 @@
 pub mod FieldLaws
-pub mod PlaceLaws
 pub mod SoundLaws

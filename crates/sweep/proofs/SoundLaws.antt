@@ -20,7 +20,8 @@ use Rattle.fields.proofs.StageLaws.{fields-few, fault-none, fault-done}
 use Rattle.rules.specs.Texts.{Kinded}
 use Rattle.walk.specs.Walk.{Parted, cutRecord}
 use Rattle.walk.proofs.WalkLaws.{cut-size, none-left}
-use Rattle.sweep.specs.Sweep.{ReadTo, Fielded, SoundFrom}
+use Rattle.readany.specs.Reads.{ReadTo}
+use Rattle.sweep.specs.Sweep.{Fielded, SoundFrom}
 
 -- a file of this number has so many fields
 pub fielded : (file n : ℕ) → n ≡ fieldsOf file → 1 ≤ file → file ≤ 13 → Fielded file n

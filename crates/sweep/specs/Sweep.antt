@@ -1,32 +1,14 @@
--- What one pass over a file's bytes sees of a record and the file: what the sweep's functions ask and ensure. Of what it waves away nothing is said.
-use Prim.Native.Nat.{ℕ, _+_, _≤_, _<_}
+-- What one pass over a file's bytes sees of the file: what the sweep's functions ask and ensure. Of what it waves away nothing is said.
+use Prim.Native.Nat.{ℕ, _≤_}
 use mathlib.Core.Path.{_≡_}
 use mathlib.Core.Bool.{true}
-use mathlib.Core.List.{List, [], _++_}
-use lib.ListN.{length, drop}
+use mathlib.Core.List.{List, []}
+use lib.ListN.{drop}
 use Rattle.laws.specs.Numbered.{answered}
-use Rattle.file.specs.Bytes.{CR, LF, starts}
 use Rattle.file.specs.Files.{isFile, fieldsOf}
-use Rattle.file.specs.Format.{writtenRecord, PermittedTexts}
 use Rattle.file.specs.Records.{recordsIn}
-use Rattle.field.specs.Stage.{firstUnkind, faultsFrom}
-use Rattle.walk.specs.Walk.{LegalFrom, Parted, cutRecord}
-
--- CR and LF stand at `at`, and `next` is behind them
-pub record LineTo (s : List ℕ) (at next : ℕ) : Type 0 where
-  pub first : starts CR (drop at s) ≡ true
-  pub second : starts LF (drop (at + 1) s) ≡ true
-  pub place : next ≡ at + 2
-  pub near : next ≤ length s
-
--- a record was read from `at` to `next`: the bytes there are the writing of n permitted texts of their kinds, which stand where the places say
-pub record ReadTo (file n : ℕ) (s : List ℕ) (at : ℕ) (places : List ℕ) (next : ℕ) : Type 0 where
-  pub far : at < next
-  pub near : next ≤ length s
-  pub parted : Parted n s places
-  pub bytes : drop at s ≡ writtenRecord (cutRecord n s places) ++ drop next s
-  pub texts : PermittedTexts (cutRecord n s places)
-  pub kinds : firstUnkind file 1 (cutRecord n s places) ≡ 0
+use Rattle.field.specs.Stage.{faultsFrom}
+use Rattle.walk.specs.Walk.{LegalFrom}
 
 -- n is how many fields a record of this file has
 pub record Fielded (file n : ℕ) : Type 0 where

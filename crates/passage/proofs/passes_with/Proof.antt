@@ -10,8 +10,8 @@ use Rattle.file.specs.Files.{fieldsOf}
 use Rattle.keys.specs.Keys.{none}
 use Rattle.lookup.specs.Ways.{Lasts}
 use Rattle.thirteen.specs.Batch.{thirteen}
+use Rattle.readany.proofs.PlaceLaws.{read-as}
 use Rattle.sweep.specs.Sweep.{Fielded}
-use Rattle.sweep.proofs.PlaceLaws.{read-as}
 use Rattle.sweep.proofs.SoundLaws.{fielded, some-fields, kinded}
 use Rattle.amiss.proofs.RecordLaws.{later}
 use Rattle.recall.specs.Recall.{Recalls}

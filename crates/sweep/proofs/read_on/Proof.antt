@@ -2,8 +2,8 @@
 use mathlib.Core.Path.{refl}
 use borrow.Author.Needs.{needs}
 use Rattle.field.specs.Kinds.{kindOf, kinds, udaje, mistenky}
+use Rattle.readany.proofs.PlaceLaws.{read-as}
 use Rattle.sweep.proofs.FieldLaws.{first-9, first-13}
-use Rattle.sweep.proofs.PlaceLaws.{read-as}
 use Rattle.sweep.proofs.read_on.Statement.{statement}
 use Rattle.sweep.proofs.read_on.Tie as tie
 

@@ -22,9 +22,10 @@ use Rattle.trail.specs.Lists.{select, rising, backward, travel}
 use Rattle.trail.specs.Trail.{upward, begin, after, stepOf, placeOf}
 use Rattle.trail.proofs.ListLaws.{All, all-select, all-rising}
 use Rattle.trip.specs.Stops.{stopsFit}
-use Rattle.course.specs.Track.{visitOf, setOut, trackOn, trackBehind, timeOn, timeBehind, shrunk, lengthOn, lengthBehind, courseEnds}
-use Rattle.course.specs.declared.Track.{Track}
-use Rattle.course.specs.declared.Visit.{Visit}
+use Rattle.track.specs.Track.{setOut, trackOn, timeOn, shrunk, lengthOn, courseEnds}
+use Rattle.track.specs.declared.Track.{Track}
+use Rattle.track.specs.declared.Visit.{Visit}
+use Rattle.course.specs.Course.{visitOf, trackBehind, timeBehind, lengthBehind}
 use Rattle.course.proofs.TrackLaws.{AllTame, kinds-tame, course-is-stops}
 use Rattle.coded.specs.Ready.{Ready}
 use Rattle.calling.specs.Calling.{travelled, goesUp, firstPlace}

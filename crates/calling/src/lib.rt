@@ -70,7 +70,7 @@ pub fn stops_fit(
 {
     let up = trip % 2 == 1;
     let mut places: [usize; 14] = [0; 14];
-    let mut c = course::set_out();
+    let mut c = track::set_out();
     let mut time: u64 = 0;
     let mut length: u64 = 0;
     let mut step = first_of(f8, order, ways, last, entry, line, trip);
@@ -79,14 +79,14 @@ pub fn stops_fit(
     while step.at < f8.len() {
         let next = cut(f8, step.at, 10, class, &mut places);
         let v = course::visit_of(f8, &places);
-        c = course::track_on(c, v);
-        time = course::time_on(time, v);
-        length = course::length_on(length, v);
+        c = track::track_on(c, v);
+        time = track::time_on(time, v);
+        length = track::length_on(length, v);
         near = later(near, step.at);
         step = step_on(8, f8, &places, order, ways, step, next, up, line, trip);
     }
     Stops {
-        fit: course::course_ends(c, time, length),
+        fit: track::course_ends(c, time, length),
         last: near,
         entry: later(begun, step.entry),
     }

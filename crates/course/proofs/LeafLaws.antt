@@ -7,7 +7,7 @@ use native.Mathlib.Omega.{arith}
 use lib.Dec.{eqb}
 use lib.ListN.{length}
 use borrow.Author.Tests.{eqb-true, eqb-false, ne-eqb}
-use Rattle.laws.specs.Tests.{pick, both, either, never}
+use Rattle.laws.specs.Tests.{both, either, never}
 use Rattle.file.specs.Format.{Text, Fields}
 use Rattle.field.specs.Kinds.{admits}
 use Rattle.field.specs.Names.{kilometres, arrival, departure}
@@ -16,9 +16,9 @@ use Rattle.field.specs.declared.Kind.{Kind}
 use Rattle.field.proofs.AdmitLaws.{given-digits}
 use Rattle.field.proofs.ValueLaws.{digits-are, time-digits}
 use Rattle.trip.specs.Stops.{arrives, departs, passesIn, blank}
-use Rattle.course.specs.Track.{minuteOr, visitOf}
-use Rattle.course.specs.declared.Visit.{Visit}
 use Rattle.trip.proofs.DayLaws.{among-size}
+use Rattle.track.specs.declared.Visit.{Visit}
+use Rattle.course.specs.Course.{minuteOr, visitOf}
 
 -- A TIME FIELD
 module _ (t : Text) (e : admits Kind.Time t ≡ true) where
@@ -97,8 +97,3 @@ pub visit-is : (r : Fields) {a d k : Text} {comes goes stands : Bool} {early lat
     (visitOf r)
 unfolding visitOf arrives departs blank
 visit-is r {a} {d} e f g p q s u v w = rw (e, f, g, p, q, s, u, v, w, none-of-two (length a) (length d))
-
--- what is picked is the same in both cases
-pub same-pick : (t : Bool) → false ≡ pick t false false
-same-pick true = refl
-same-pick false = refl

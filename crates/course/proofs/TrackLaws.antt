@@ -18,7 +18,6 @@ use Rattle.field.proofs.ValueLaws.{minute-bound, digits-bound}
 use Rattle.field.proofs.AdmitLaws.{given-digits}
 use Rattle.rules.proofs.KindLaws.{kind-at}
 use Rattle.trail.specs.Lists.{some, tally}
-use Rattle.course.specs.declared.Track.{Track}
 use Rattle.trip.specs.Stops.{
   arrives,
   departs,
@@ -37,24 +36,9 @@ use Rattle.trip.specs.Stops.{
   lengthsFit,
   stopsFit,
 }
-use Rattle.course.specs.Track.{
-  minuteOr,
-  visitOf,
-  setOut,
-  timedOn,
-  untimedOn,
-  trackOn,
-  trackEnds,
-  trackBehind,
-  fallen,
-  minuteOn,
-  timeOn,
-  timeBehind,
-  shrunk,
-  lengthOn,
-  lengthBehind,
-  courseEnds,
-}
+use Rattle.track.specs.Track.{setOut, timedOn, untimedOn, trackOn, trackEnds, fallen, minuteOn, timeOn, shrunk, lengthOn, courseEnds}
+use Rattle.track.specs.declared.Track.{Track}
+use Rattle.course.specs.Course.{minuteOr, visitOf, trackBehind, timeBehind, lengthBehind}
 
 -- THE TIMES.
 -- a time field, where the walk stands at `last`: it goes on, it falls, and what has fallen stays so

@@ -1,1 +1,1 @@
-pub mod Track
+pub mod Course

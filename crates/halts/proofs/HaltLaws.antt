@@ -20,8 +20,8 @@ use Rattle.trail.specs.Lists.{select, some, travel, backward}
 use Rattle.trail.specs.Trail.{upward, begin, after, stepOf, placeOf}
 use Rattle.trail.proofs.ListLaws.{length-travel}
 use Rattle.trip.specs.Stops.{arrives, departs, timed}
-use Rattle.course.specs.Track.{visitOf}
-use Rattle.course.specs.declared.Visit.{Visit}
+use Rattle.track.specs.declared.Visit.{Visit}
+use Rattle.course.specs.Course.{visitOf}
 use Rattle.coded.specs.Left.{leftAt}
 use Rattle.coded.specs.Ready.{Ready}
 use Rattle.coded.proofs.LeftLaws.{step-mine, left-start, left-done, left-next}

@@ -37,9 +37,9 @@ use Rattle.trail.specs.Lists.{select, some, each, rising, travel}
 use Rattle.trail.specs.Trail.{upward, ahead, after}
 use Rattle.trail.proofs.ListLaws.{All, select-pass, all-rising, each-length}
 use Rattle.trip.specs.Stops.{arrives, departs, timed, arrivalMinute, departureMinute}
-use Rattle.course.specs.Track.{minuteOr, visitOf}
+use Rattle.track.specs.declared.Visit.{Visit}
+use Rattle.course.specs.Course.{minuteOr, visitOf}
 use Rattle.trip.specs.View.{Signed, nobody, tripStopSigns, viewOf, stopsOf, stopSigns}
-use Rattle.course.specs.declared.Visit.{Visit}
 use Rattle.trip.proofs.StopLaws.{arrival-own, departure-own}
 use Rattle.trip.proofs.ViewLaws.{stop-fields, view-signed-stops}
 use Rattle.calling.specs.Calling.{travelled, goesUp}

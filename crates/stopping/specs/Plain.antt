@@ -14,7 +14,7 @@ use Rattle.link.specs.Met.{number}
 use Rattle.trail.specs.Lists.{some}
 use Rattle.trip.specs.Stage.{tripsFile}
 use Rattle.trip.specs.Stops.{arrives, departs, timed}
-use Rattle.course.specs.Track.{minuteOr}
+use Rattle.course.specs.Course.{minuteOr}
 use Rattle.calling.specs.Calling.{travelled}
 use Rattle.marks.specs.Marks.{plainSigns}
 use Rattle.stopping.specs.Halt.{signSum}

@@ -69,7 +69,7 @@ fn sign_sum(
 }
 
 // Whether a record with a time is the last such.
-fn is_last(v: course::Visit, more: bool) -> bool
+fn is_last(v: track::Visit, more: bool) -> bool
     ensures { λ r. ⌜ r ≡ both (oneOf (v .arrives) (v .departs)) (not more) ⌝ }
 {
     if v.arrives {

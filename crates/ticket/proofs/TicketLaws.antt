@@ -28,8 +28,8 @@ use Rattle.keys.proofs.KeyFileLaws.{first-with}
 use Rattle.rules.specs.Texts.{texts}
 use Rattle.link.specs.Signs.{isIn}
 use Rattle.trip.specs.Stops.{timed}
-use Rattle.course.specs.Track.{visitOf}
-use Rattle.course.specs.declared.Visit.{Visit}
+use Rattle.track.specs.declared.Visit.{Visit}
+use Rattle.course.specs.Course.{visitOf}
 use Rattle.trip.proofs.ViewLaws.{first-found}
 use Rattle.trips.specs.Plain.{plainRuns}
 use Rattle.marks.specs.Marks.{plainSigns}

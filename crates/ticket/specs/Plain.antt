@@ -13,7 +13,7 @@ use Rattle.link.specs.Signs.{isIn}
 use Rattle.trail.specs.Lists.{firstOr}
 use Rattle.trip.specs.Stage.{tripsFile}
 use Rattle.trip.specs.Stops.{arrives, departs, timed}
-use Rattle.course.specs.Track.{minuteOr}
+use Rattle.course.specs.Course.{minuteOr}
 use Rattle.trips.specs.Plain.{plainRuns}
 use Rattle.marks.specs.Marks.{plainSigns}
 use Rattle.roll.specs.Roll.{tripRecord}

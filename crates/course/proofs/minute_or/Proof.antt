@@ -3,7 +3,7 @@ use mathlib.Core.Path.{sym, _∙_}
 use native.Mathlib.Omega.{arith}
 use borrow.Author.Needs.{needs}
 use Rattle.field.proofs.ValueLaws.{minute-bound}
-use Rattle.course.specs.Track.{minuteOr}
+use Rattle.course.specs.Course.{minuteOr}
 use Rattle.course.proofs.minute_or.Statement.{statement}
 use Rattle.course.proofs.minute_or.Tie as tie
 

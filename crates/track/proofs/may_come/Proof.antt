@@ -1,10 +1,10 @@
--- `course::may_come` meets its contract: the first test that fails ends it, for the first record with a time and for a later one.
+-- `track::may_come` meets its contract: the first test that fails ends it, for the first record with a time and for a later one.
 use lib.Dec.{eqb}
 use borrow.Author.Tests.{eq-eqb, ne-eqb, not-true, not-false}
-use Rattle.course.specs.Track.{timedOn}
-use Rattle.course.proofs.LeafLaws.{same-pick}
-use Rattle.course.proofs.may_come.Statement.{statement}
-use Rattle.course.proofs.may_come.Tie as tie
+use Rattle.track.specs.Track.{timedOn}
+use Rattle.track.proofs.PickLaws.{same-pick}
+use Rattle.track.proofs.may_come.Statement.{statement}
+use Rattle.track.proofs.may_come.Tie as tie
 
 returns : tie.Need-returns
 unfolding timedOn

@@ -1,9 +1,9 @@
--- `course::track_on` meets its contract: with a time, and without.
+-- `track::track_on` meets its contract: with a time, and without.
 use mathlib.Core.Path.{sym, _∙_}
 use borrow.Author.Needs.{needs}
-use Rattle.course.specs.Track.{trackOn}
-use Rattle.course.proofs.track_on.Statement.{statement}
-use Rattle.course.proofs.track_on.Tie as tie
+use Rattle.track.specs.Track.{trackOn}
+use Rattle.track.proofs.track_on.Statement.{statement}
+use Rattle.track.proofs.track_on.Tie as tie
 
 returns : tie.Need-returns
 unfolding trackOn

@@ -1,9 +1,9 @@
--- `course::course_ends` meets its contract: the first test that fails ends it.
+-- `track::course_ends` meets its contract: the first test that fails ends it.
 use borrow.Author.Tests.{not-true, not-false}
 use Rattle.laws.specs.Tests.{tests}
-use Rattle.course.specs.Track.{courseEnds, trackEnds}
-use Rattle.course.proofs.course_ends.Statement.{statement}
-use Rattle.course.proofs.course_ends.Tie as tie
+use Rattle.track.specs.Track.{courseEnds, trackEnds}
+use Rattle.track.proofs.course_ends.Statement.{statement}
+use Rattle.track.proofs.course_ends.Tie as tie
 
 returns : tie.Need-returns
 unfolding courseEnds trackEnds

@@ -1,9 +1,9 @@
--- `course::length_on` meets its contract: kilometres that are not given leave the last where it was, and one that falls is seen.
+-- `track::length_on` meets its contract: kilometres that are not given leave the last where it was, and one that falls is seen.
 use borrow.Author.Tests.{not-true, not-false}
 use Rattle.laws.specs.Tests.{tests}
-use Rattle.course.specs.Track.{lengthOn}
-use Rattle.course.proofs.length_on.Statement.{statement}
-use Rattle.course.proofs.length_on.Tie as tie
+use Rattle.track.specs.Track.{lengthOn}
+use Rattle.track.proofs.length_on.Statement.{statement}
+use Rattle.track.proofs.length_on.Tie as tie
 
 returns : tie.Need-returns
 unfolding lengthOn

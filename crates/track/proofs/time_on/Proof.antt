@@ -1,8 +1,8 @@
--- `course::time_on` meets its contract: the arrival, then the departure.
+-- `track::time_on` meets its contract: the arrival, then the departure.
 use borrow.Author.Needs.{needs}
-use Rattle.course.specs.Track.{timeOn}
-use Rattle.course.proofs.time_on.Statement.{statement}
-use Rattle.course.proofs.time_on.Tie as tie
+use Rattle.track.specs.Track.{timeOn}
+use Rattle.track.proofs.time_on.Statement.{statement}
+use Rattle.track.proofs.time_on.Tie as tie
 
 returns : tie.Need-returns
 unfolding timeOn

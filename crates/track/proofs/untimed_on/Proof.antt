@@ -1,9 +1,9 @@
--- `course::untimed_on` meets its contract, member by member, before the first record with a time and behind it.
+-- `track::untimed_on` meets its contract, member by member, before the first record with a time and behind it.
 use borrow.Author.Needs.{needs}
 use borrow.Author.Tests.{eq-eqb, ne-eqb}
-use Rattle.course.specs.Track.{untimedOn}
-use Rattle.course.proofs.untimed_on.Statement.{statement}
-use Rattle.course.proofs.untimed_on.Tie as tie
+use Rattle.track.specs.Track.{untimedOn}
+use Rattle.track.proofs.untimed_on.Statement.{statement}
+use Rattle.track.proofs.untimed_on.Tie as tie
 
 returns : tie.Need-returns
 unfolding untimedOn

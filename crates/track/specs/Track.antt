@@ -1,32 +1,12 @@
 -- How the code goes about refusal 11: one pass in travel order that never looks ahead. What it carries is a `Track` for the places, and the last
--- minute and kilometre, where a number above all others says that they have fallen. Nothing here needs to be believed: the pass is proved to be `stopsFit`.
-use Prim.Native.Nat.{ℕ, _+_}
-use mathlib.Core.List.{List, [], _∷_}
+-- minute and kilometre, where a number above all others says that they have fallen. Nothing here needs to be believed: the pass is proved to be `stopsFit`
+-- in `course`.
+use Prim.Native.Nat.{ℕ}
 use mathlib.Core.Bool.{Bool, true, false, not}
 use lib.Dec.{eqb, leb, ltb}
 use Rattle.laws.specs.Tests.{pick, both, oneOf}
-use Rattle.file.specs.Format.{Text, Fields}
-use Rattle.field.specs.Values.{given, value, isTime, minuteOf}
-use Rattle.field.specs.Names.{kilometres, arrival, departure}
-use Rattle.course.specs.declared.Visit.{Visit}
-use Rattle.course.specs.declared.Track.{Track}
-use Rattle.trip.specs.Stops.{arrives, departs, timed, passes, blank}
-
--- what a record says: a time's minute, or 0; its kilometre, or 0
-unfoldable pub minuteOr : Text → ℕ
-minuteOr t = pick (isTime t) (minuteOf t) 0
-
-unfoldable pub visitOf : Fields → Visit
-visitOf r = record {
-  arrives = arrives r;
-  arrival = minuteOr (arrival r);
-  departs = departs r;
-  departure = minuteOr (departure r);
-  passes = passes r;
-  blank = blank r;
-  measured = given (kilometres r);
-  kilometre = value (kilometres r);
-}
+use Rattle.track.specs.declared.Visit.{Visit}
+use Rattle.track.specs.declared.Track.{Track}
 
 -- nothing has come yet
 unfoldable pub setOut : Track
@@ -59,11 +39,6 @@ trackOn c v = pick (oneOf (v .arrives) (v .departs)) (timedOn c v) (untimedOn c 
 unfoldable pub trackEnds : Track → Bool
 trackEnds c = both (c .fits) (both (eqb (c .seen) 2) (both (c .arrives) (not (c .passed))))
 
--- behind these records
-unfoldable pub trackBehind : Track → List Fields → Track
-trackBehind c [] = c
-trackBehind c (r ∷ rs) = trackBehind (trackOn c (visitOf r)) rs
-
 -- the last minute, or `fallen`, above all minutes
 abbrev pub fallen : ℕ
 fallen = 1440
@@ -74,20 +49,12 @@ minuteOn last isOne minute = pick isOne (pick (leb last minute) minute fallen) l
 unfoldable pub timeOn : ℕ → Visit → ℕ
 timeOn last v = minuteOn (minuteOn last (v .arrives) (v .arrival)) (v .departs) (v .departure)
 
-unfoldable pub timeBehind : ℕ → List Fields → ℕ
-timeBehind last [] = last
-timeBehind last (r ∷ rs) = timeBehind (timeOn last (visitOf r)) rs
-
 -- the last kilometre, or `shrunk`, above all of them
 abbrev pub shrunk : ℕ
 shrunk = 1000000000
 
 unfoldable pub lengthOn : ℕ → Visit → ℕ
 lengthOn last v = pick (v .measured) (pick (leb last (v .kilometre)) (v .kilometre) shrunk) last
-
-unfoldable pub lengthBehind : ℕ → List Fields → ℕ
-lengthBehind last [] = last
-lengthBehind last (r ∷ rs) = lengthBehind (lengthOn last (visitOf r)) rs
 
 -- nothing was wrong
 unfoldable pub courseEnds : Track → ℕ → ℕ → Bool

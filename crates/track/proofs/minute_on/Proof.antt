@@ -1,9 +1,9 @@
--- `course::minute_on` meets its contract: no time leaves the last minute where it was, and one that falls is seen.
+-- `track::minute_on` meets its contract: no time leaves the last minute where it was, and one that falls is seen.
 use borrow.Author.Tests.{not-true, not-false}
 use Rattle.laws.specs.Tests.{tests}
-use Rattle.course.specs.Track.{minuteOn}
-use Rattle.course.proofs.minute_on.Statement.{statement}
-use Rattle.course.proofs.minute_on.Tie as tie
+use Rattle.track.specs.Track.{minuteOn}
+use Rattle.track.proofs.minute_on.Statement.{statement}
+use Rattle.track.proofs.minute_on.Tie as tie
 
 returns : tie.Need-returns
 unfolding minuteOn

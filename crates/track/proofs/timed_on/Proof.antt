@@ -1,8 +1,8 @@
--- `course::timed_on` meets its contract, member by member.
+-- `track::timed_on` meets its contract, member by member.
 use borrow.Author.Needs.{needs}
-use Rattle.course.specs.Track.{timedOn}
-use Rattle.course.proofs.timed_on.Statement.{statement}
-use Rattle.course.proofs.timed_on.Tie as tie
+use Rattle.track.specs.Track.{timedOn}
+use Rattle.track.proofs.timed_on.Statement.{statement}
+use Rattle.track.proofs.timed_on.Tie as tie
 
 returns : tie.Need-returns
 unfolding timedOn

@@ -25,7 +25,7 @@ use Rattle.checkresults.specs.Results.{FieldsGives}
 use Rattle.hintresults.specs.Results.{HintGives}
 use Rattle.slovdrim.specs.Gives.{CheckGives, SaleGives, SalesGives, StopGives}
 use Rattle.slovdrim.specs.TripGives.{RunsGives, TripStopGives}
-use Rattle.slovdrim.specs.Version.{VersionGives}
+use Rattle.version.specs.Version.{VersionGives}
 
 pub record Determined : Type 0 where
   -- the calendar

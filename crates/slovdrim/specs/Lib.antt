@@ -1,3 +1,2 @@
-pub mod Version
 pub mod Gives
 pub mod TripGives

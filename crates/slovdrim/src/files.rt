@@ -5,7 +5,7 @@ use fileresults::RecordsResult;
 use fileresults::StretchResult;
 use fileresults::WriteResult;
 ghost use Rattle.fileresults.specs.Results.{RecordsGives, StretchGives, WriteGives};
-ghost use Rattle.slovdrim.specs.Version.{VersionGives};
+ghost use Rattle.version.specs.Version.{VersionGives};
 
 // The number of records of a file.
 #[no_mangle]
@@ -42,5 +42,5 @@ pub extern "C" fn slovdrim_write(
 pub extern "C" fn slovdrim_version() -> u64
     ensures { λ r. ⌜ VersionGives r ⌝ }
 {
-    4
+    version::version()
 }

@@ -1,11 +1,11 @@
 -- Whether a trip runs: on a batch with no fault each trip's line is there and the records say what the line's view says.
-use mathlib.Core.Path.{_≡_, refl, ap, _∙_}
+use mathlib.Core.Path.{_≡_, refl}
 use mathlib.Core.Bool.{true, false}
 use mathlib.Core.List.{List, [], _∷_}
 use Prim.Native.Nat.{ℕ, _≤_, _<_}
 use native.Mathlib.Omega.{arith}
 use lib.Dec.{eqb}
-use lib.ListN.{length, getD}
+use lib.ListN.{length}
 use borrow.Author.Tests.{lt-leb, le-leb}
 use Rattle.laws.specs.Tests.{pick, never, clash}
 use Rattle.laws.specs.Numbered.{answered, refused}
@@ -18,12 +18,10 @@ use Rattle.field.specs.Names.{linesFile, timeCodesFile}
 use Rattle.walk.specs.Walk.{LegalFrom}
 use Rattle.walk.specs.declared.Found.{Found}
 use Rattle.walk.specs.declared.Found.the-variants.{At, Nothing}
-use Rattle.keys.specs.Keys.{keyFields, keyTable, keyOf, numbers, has, firstWith}
+use Rattle.keys.specs.Keys.{has, firstWith}
 use Rattle.keys.specs.Ranks.{recordAt}
 use Rattle.keys.proofs.KeyLaws.{has-found, has-none}
-use Rattle.link.specs.Met.{Linking, number}
 use Rattle.link.specs.Signs.{codesFile}
-use Rattle.link.proofs.HasLaws.{has-holds, holds-has}
 use Rattle.thirteen.specs.Batch.{Batch, fileIn, recordsOf}
 use Rattle.trip.specs.Stage.{tripsFile}
 use Rattle.trip.specs.View.{viewOf, runsOn}
@@ -32,6 +30,7 @@ use Rattle.coded.specs.Ready.{Ready}
 use Rattle.trips.specs.Plain.{plainRuns}
 use Rattle.trips.proofs.PlainLaws.{plain-runs}
 use Rattle.trips.proofs.ReadyLaws.{ready-file}
+use Rattle.roll.proofs.StandingLaws.{line-met}
 use Rattle.roll.proofs.TripLaws.{trip-found}
 use Rattle.fault.specs.Answers.{numberedFault}
 use Rattle.batch.specs.Order.{faultOf}
@@ -73,17 +72,6 @@ answer-view b line trip d holidays l = go (firstWith tripsFile (line ∷ trip �
     go Nothing e =
         let z = has-none tripsFile (line ∷ trip ∷ []) 0 (recordsOf b tripsFile) e in
         rw (answer-none (recordsOf b codesFile) (recordsOf b linesFile) (recordsOf b timeCodesFile) (recordsOf b tripsFile) line trip d holidays z, z)
-
--- each trip's line is there
-line-met : (b : Batch) (line trip : ℕ) → Linking b → LineMet (recordsOf b linesFile) (recordsOf b tripsFile) line trip
-unfolding keyFields keyTable numbers
-line-met b line trip k e =
-    let h = has-holds tripsFile (line ∷ trip ∷ []) (recordsOf b tripsFile) e in
-    let r = getD (recordsOf b tripsFile) (h .0) [] in
-    let one : number 1 r ≡ line = ap (λ (l : List ℕ). getD l 0 0) (h .2) in
-    let q = k .trips r (h .0, h .1, refl) .0 in
-    let at = q .1 in
-    holds-has linesFile (line ∷ []) (recordsOf b linesFile) (at .0) (at .1) (ap (λ (x : Fields). keyOf linesFile x) (at .2) ∙ q .2 ∙ ap (λ (n : ℕ). n ∷ []) one)
 
 -- what is asked of a batch with no fault, where the ways were made out
 pub record Asked (b : Batch) (order ways : List ℕ) (line trip : ℕ) : Type 0 where

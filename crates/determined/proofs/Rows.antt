@@ -12,11 +12,11 @@ use Rattle.fields.specs.OneResult.{checked-one}
 use Rattle.batch.specs.Verdicts.{verdictOf}
 use Rattle.counter.specs.Answers.{runsAnswer}
 use Rattle.calls.specs.Answers.{stopAnswer}
-use Rattle.sale.specs.Answers.{saleAnswer}
+use Rattle.selling.specs.Answers.{saleAnswer}
 use Rattle.outcome.specs.Answers.{numberedVerdict, numberedRuns, numberedStop, numberedSale}
 use Rattle.outcome.specs.OneResult.{verdict-one, runs-one, stop-one, sale-one}
 use Rattle.asking.specs.Answers.{numberedSales}
-use Rattle.sales.specs.Sales.{salesAnswer, salesList}
+use Rattle.selling.specs.Sales.{salesAnswer, salesList}
 use Rattle.asking.specs.OneResult.{sales-one}
 use Rattle.named.specs.Names.{numberedNamed}
 use Rattle.naming.specs.Names.{nameAnswer}

@@ -13,8 +13,8 @@ use Rattle.fields.specs.Check.{CheckedIs}
 use Rattle.batch.specs.Verdicts.{VerdictIs}
 use Rattle.counter.specs.Numbers.{RunsIs}
 use Rattle.calls.specs.Numbers.{StopIs}
-use Rattle.sale.specs.Answers.{SaleIs}
-use Rattle.sales.specs.Sales.{SalesIs}
+use Rattle.selling.specs.Answers.{SaleIs}
+use Rattle.selling.specs.Sales.{SalesIs}
 use Rattle.asking.specs.declared.Sales.{Sales}
 use Rattle.naming.specs.Names.{NameIs}
 use Rattle.arrange.specs.Hint.{HintIs}

@@ -5,7 +5,7 @@ use file::classes;
 use outcome::Sale;
 use ticket::sale_on;
 ghost use Rattle.thirteen.specs.Batch.{thirteen};
-ghost use Rattle.sale.specs.Answers.{SaleIs};
+ghost use Rattle.selling.specs.Answers.{SaleIs};
 
 // The sale question, with a list of holidays. `order` is a hint and may hold anything: no answer depends on it.
 pub fn may_sell<'a>(

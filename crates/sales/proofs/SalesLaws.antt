@@ -1,6 +1,6 @@
 -- What comes back of many questions on a batch, and what the list holds.
-use mathlib.Core.Path.{_≡_, sym, ap, _∙_}
-use mathlib.Core.Bool.{Bool, true, false, not}
+use mathlib.Core.Path.{_≡_, sym, _∙_}
+use mathlib.Core.Bool.{Bool, true, not}
 use mathlib.Core.List.{List, [], _∷_}
 use Prim.Native.Nat.{ℕ, _*_, _≤_}
 use lib.Dec.{eqb, leb}
@@ -13,32 +13,23 @@ use Rattle.thirteen.specs.Batch.{Batch, recordsOf}
 use Rattle.fault.specs.Answers.{numberedFault}
 use Rattle.fault.specs.declared.Fault.{Fault}
 use Rattle.batch.specs.Order.{faultOf}
-use Rattle.batch.proofs.AcceptedLaws.{standing}
-use Rattle.sale.specs.Answers.{saleAnswer}
-use Rattle.ticket.specs.Plain.{plainSale}
-use Rattle.ticket.proofs.ViewOfSale.{plain-sale}
 use Rattle.asking.specs.Rows.{rows, questions}
 use Rattle.asking.specs.Answers.{numberedSales}
 use Rattle.asking.specs.declared.Sales.{Sales}
 use Rattle.asking.proofs.RowLaws.{rows-same, room-short, room-enough}
 use Rattle.answering.specs.Plainly.{plainly}
-use Rattle.sales.specs.Sales.{single, salesAnswer, salesList, SalesIs}
+use Rattle.selling.specs.Sales.{single, salesAnswer, salesList, SalesIs}
+use Rattle.selling.proofs.SellingLaws.{a-fault, sale-plain, list-kept}
 
 -- A BATCH, the questions, and the lent list.
 module _ (b : Batch) (holidays asked list : List ℕ) where
-  -- with a refusal the list is kept
-  kept : {x : Numbered} → x ≡ salesAnswer b asked (length list) → eqb (x .number) 0 ≡ false → list ≡ salesList b holidays asked list
-  unfolding salesList
-  kept e h = rw (← e, h)
-
   -- the batch's own
   pub sales-refused : (f : Fault) → numberedFault f ≡ faultOf b → (t : Bool) → t ≡ eqb (numberedFault f .number) 0 → not t ≡ true
       → SalesIs b holidays asked list (Sales.Refused f) list
   unfolding salesAnswer numberedSales
   sales-refused f e t d h =
-      let z : eqb (faultOf b .number) 0 ≡ false = ap (λ (a : Numbered). eqb (a .number) 0) (sym e) ∙ sym d ∙ not-true t h in
-      let g : numberedFault f ≡ salesAnswer b asked (length list) = rw z e in
-      (g, kept g (sym d ∙ not-true t h))
+      let g : numberedFault f ≡ salesAnswer b asked (length list) = rw (a-fault b f e t d h) e in
+      (g, list-kept b holidays asked list g (sym d ∙ not-true t h))
 
   -- it has none: what comes back is as many as there are, or that there is no room
   module _ (e : faultOf b ≡ answered []) where
@@ -49,7 +40,7 @@ module _ (b : Batch) (holidays asked list : List ℕ) where
     unfolding salesAnswer numberedSales
     sales-no-room f r =
         let g : numberedFault f ≡ salesAnswer b asked (length list) = rw e r in
-        (g, kept g (room-short (leb (3 * questions asked) (length list)) f (questions asked) r))
+        (g, list-kept b holidays asked list g (room-short (leb (3 * questions asked) (length list)) f (questions asked) r))
 
     -- there is room
     pub sales-fit : (n : ℕ) → Room (numberedSales (Sales.Answered n)) → 3 * questions asked ≤ length list
@@ -60,11 +51,7 @@ module _ (b : Batch) (holidays asked list : List ℕ) where
     pub sales-answered : (n : ℕ) → Room (numberedSales (Sales.Answered n))
         → {after : List ℕ} → after ≡ splice list 0 (rows (plainly (recordsOf b 3) (recordsOf b 5) (recordsOf b 6) (recordsOf b 7) (recordsOf b 8) (recordsOf b 10) holidays) asked)
         → SalesIs b holidays asked list (Sales.Answered n) after
-    unfolding salesAnswer salesList numberedSales saleAnswer
+    unfolding salesAnswer salesList numberedSales
     sales-answered n r k =
         let g : leb (3 * questions asked) (length list) ≡ true = room-enough (leb (3 * questions asked) (length list)) n (questions asked) r .0 in
-        let same : (line trip day month year from to : ℕ)
-        → plainSale (recordsOf b 3) (recordsOf b 5) (recordsOf b 6) (recordsOf b 7) (recordsOf b 8) (recordsOf b 10) line trip day month year from to holidays
-        ≡ saleAnswer b line trip day month year from to holidays
-        = λ line trip day month year from to. rw e (plain-sale b (standing b e) line trip day month year from to holidays) in
-        (rw e r, rw (e, g) (k ∙ rw (rows-same _ (single b holidays) same asked)))
+        (rw e r, rw (e, g) (k ∙ rw (rows-same _ (single b holidays) (λ line trip day month year from to. sale-plain b e line trip day month year from to holidays) asked)))

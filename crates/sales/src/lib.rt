@@ -6,7 +6,7 @@ use batch::check_with;
 use fault::is_none;
 use file::classes;
 ghost use Rattle.thirteen.specs.Batch.{thirteen};
-ghost use Rattle.sales.specs.Sales.{SalesIs};
+ghost use Rattle.selling.specs.Sales.{SalesIs};
 
 // Many sale questions: seven numbers each in, three numbers each out. `order` is a hint and may hold anything: no answer depends on it.
 pub fn many_sales<'a>(

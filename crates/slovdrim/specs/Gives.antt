@@ -6,8 +6,8 @@ use lib.ListN.{length}
 use Rattle.file.specs.Format.{Text}
 use Rattle.thirteen.specs.Batch.{Batch}
 use Rattle.batch.specs.Verdicts.{verdictOf}
-use Rattle.sale.specs.Answers.{saleAnswer}
-use Rattle.sales.specs.Sales.{salesAnswer, salesList}
+use Rattle.selling.specs.Answers.{saleAnswer}
+use Rattle.selling.specs.Sales.{salesAnswer, salesList}
 use Rattle.naming.specs.Names.{nameAnswer}
 use Rattle.checkresults.specs.Results.{checkResult}
 use Rattle.checkresults.specs.declared.CheckResult.{CheckResult}

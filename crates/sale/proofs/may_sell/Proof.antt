@@ -12,7 +12,8 @@ use Rattle.batch.specs.Order.{faultOf}
 use Rattle.batch.proofs.AcceptedLaws.{standing}
 use Rattle.roll.proofs.StandingLaws.{standing-ready}
 use Rattle.outcome.specs.Answers.{numberedSale}
-use Rattle.sale.proofs.SaleLaws.{no-fault, sale-refused, sale-told, lines-met}
+use Rattle.selling.proofs.SellingLaws.{no-fault, lines-met}
+use Rattle.sale.proofs.SaleLaws.{sale-refused, sale-told}
 use Rattle.sale.proofs.may_sell.Statement.{statement}
 use Rattle.sale.proofs.may_sell.Tie as tie
 
@@ -49,7 +50,7 @@ sale-on-requires c κs =
     let w = k .check-with .ensures .1 (nothing e) in
     let h : 33 ≤ length ways = omega (arith, k .check-with .kept .1 .1 .1 .1 .1 .1 .1 .1 .1 .1 .1 .1 .1 .1 .0) in
     let r = standing-ready (files s) order ways (standing (files s) (nothing e)) w h in
-    (lines-met (files s) order ways (nothing e) w h, r .codes, r .lines, r .trips, r .lineStops, r .tripStops, r .timeCodes, k .before .before .before .classes .ensures)
+    (lines-met (files s) (nothing e), r .codes, r .lines, r .trips, r .lineStops, r .tripStops, r .timeCodes, k .before .before .before .classes .ensures)
 
 returns-2 : tie.Need-returns-2
 unfolding fileIn numberedSale

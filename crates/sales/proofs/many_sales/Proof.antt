@@ -11,7 +11,7 @@ use Rattle.thirteen.specs.Batch.{Batch, thirteen, fileIn}
 use Rattle.batch.specs.Order.{faultOf}
 use Rattle.batch.proofs.AcceptedLaws.{standing}
 use Rattle.roll.proofs.StandingLaws.{standing-ready}
-use Rattle.sale.proofs.SaleLaws.{no-fault, lines-met}
+use Rattle.selling.proofs.SellingLaws.{no-fault, lines-met}
 use Rattle.sales.proofs.SalesLaws.{sales-refused, sales-no-room, sales-fit, sales-answered}
 use Rattle.sales.proofs.many_sales.Statement.{statement}
 use Rattle.sales.proofs.many_sales.Tie as tie
@@ -61,7 +61,7 @@ answer-all-requires c κs =
     let h : 33 ≤ length ways = omega (arith, k .check-with .kept .1 .1 .1 .1 .1 .1 .1 .1 .1 .1 .1 .1 .1 .1 .0) in
     let y = standing-ready (files s) order ways (standing (files s) (nothing e)) w h in (
       sales-fit (files s) (now (a .holidays)) (now (a .asked)) (now (a .list)) (nothing e) (v .n .given .0 .0) (rw (v .n .given .1) at (r .room-for .ensures)),
-      lines-met (files s) order ways (nothing e) w h,
+      lines-met (files s) (nothing e),
       y .codes,
       y .lines,
       y .trips,

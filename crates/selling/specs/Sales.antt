@@ -9,10 +9,10 @@ use Rattle.laws.specs.Numbered.{Numbered, answered, refused}
 use Rattle.laws.specs.Splice.{splice}
 use Rattle.thirteen.specs.Batch.{Batch, orElse}
 use Rattle.batch.specs.Order.{faultOf}
-use Rattle.sale.specs.Answers.{saleAnswer}
 use Rattle.asking.specs.Rows.{Ask, questions, rows}
 use Rattle.asking.specs.Answers.{numberedSales}
 use Rattle.asking.specs.declared.Sales.{Sales}
+use Rattle.selling.specs.Answers.{saleAnswer}
 
 -- each is what the single call answers
 abbrev pub single : Batch → List ℕ → Ask

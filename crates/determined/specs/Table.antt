@@ -23,8 +23,8 @@ use Rattle.fileresults.specs.Results.{RecordsGives, StretchGives, WriteGives}
 use Rattle.dayresults.specs.Results.{DayGives, DateGives, WeekdayGives, WeekGives, HolidayGives, FitsGives}
 use Rattle.checkresults.specs.Results.{FieldsGives}
 use Rattle.hintresults.specs.Results.{HintGives}
-use Rattle.slovdrim.specs.Gives.{CheckGives, SaleGives, SalesGives, StopGives}
-use Rattle.slovdrim.specs.TripGives.{RunsGives, TripStopGives}
+use Rattle.gives.specs.Gives.{CheckGives, SaleGives, SalesGives, StopGives}
+use Rattle.gives.specs.TripGives.{RunsGives, TripStopGives}
 use Rattle.version.specs.Version.{VersionGives}
 
 pub record Determined : Type 0 where

@@ -4,7 +4,7 @@ use batch::check;
 use checkresults::CheckResult;
 use checkresults::judged;
 ghost use Rattle.thirteen.specs.Batch.{thirteen};
-ghost use Rattle.slovdrim.specs.Gives.{CheckGives};
+ghost use Rattle.gives.specs.Gives.{CheckGives};
 
 // The first fault of a batch, or its counts.
 #[no_mangle]

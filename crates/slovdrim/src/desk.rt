@@ -9,7 +9,7 @@ use saleresults::sale_handed;
 use saleresults::sales_handed;
 use sales::many_sales;
 ghost use Rattle.thirteen.specs.Batch.{thirteen};
-ghost use Rattle.slovdrim.specs.Gives.{SaleGives, SalesGives, StopGives};
+ghost use Rattle.gives.specs.Gives.{SaleGives, SalesGives, StopGives};
 
 // The sale question.
 #[no_mangle]

@@ -6,7 +6,7 @@ use tripresults::TripStopResult;
 use tripresults::runs_handed;
 use tripresults::stop_handed;
 ghost use Rattle.thirteen.specs.Batch.{thirteen};
-ghost use Rattle.slovdrim.specs.TripGives.{RunsGives, TripStopGives};
+ghost use Rattle.gives.specs.TripGives.{RunsGives, TripStopGives};
 
 // Whether a trip runs on a day.
 #[no_mangle]

@@ -8,7 +8,7 @@ use native.Mathlib.Omega.{arith}
 use lib.Dec.{eqb, leb, ltb}
 use lib.ListN.{length, getD, List·getD-eq-default}
 use borrow.Author.Tests.{lt-ltb, le-ltb, le-leb, lt-leb, leb-true, leb-false, eqb-true, eq-eqb}
-use Rattle.laws.specs.Tests.{pick, both, oneOf, either, clash}
+use Rattle.laws.specs.Tests.{pick, both, oneOf, either}
 use Rattle.file.specs.Format.{Text, Fields}
 use Rattle.field.specs.Values.{isEmpty, given, valueFrom, value, isTime, minuteOf}
 use Rattle.field.specs.Names.{kilometres, arrival, departure, tripStopsFile}

@@ -1,7 +1,9 @@
 // Many sale questions, answered one after the other on a batch that stands.
 use asking::Row;
 use asking::put_row;
-use boarding::Sold;
+use question::is_asked;
+use question::question_at;
+use question::row_of;
 use ticket::sale_on;
 ghost use mathlib.Core.Path.{_≡_};
 ghost use mathlib.Core.List.{[], _∷_};
@@ -15,42 +17,9 @@ ghost use Rattle.field.specs.Names.{linesFile, tripStopsFile, timeCodesFile};
 ghost use Rattle.link.specs.Signs.{codesFile};
 ghost use Rattle.coded.specs.Ready.{Ready};
 ghost use Rattle.trip.specs.Stage.{tripsFile};
-ghost use Rattle.boarding.specs.Answers.{numberedSold};
 ghost use Rattle.ticket.specs.Plain.{LinesMet};
-ghost use Rattle.asking.specs.Rows.{row, rows, rowAt, questions};
+ghost use Rattle.asking.specs.Rows.{rows, rowAt, questions};
 ghost use Rattle.answering.specs.Plainly.{plainly};
-
-// A refusal.
-fn no_sale(number: u64) -> Row
-    ensures { λ r. ⌜ (r .number ≡ number) × (r .departure ≡ 0) × (r .arrival ≡ 0) ⌝ }
-{
-    Row {
-        number,
-        departure: 0,
-        arrival: 0,
-    }
-}
-
-// The three numbers of an answer.
-fn row_of(sold: Sold) -> Row
-    ensures { λ r. ⌜ row (numberedSold sold) ≡ r .number ∷ r .departure ∷ r .arrival ∷ [] ⌝ }
-{
-    match sold {
-        Sold::NoDate => no_sale(12),
-        Sold::NoTrip => no_sale(13),
-        Sold::NoStop => no_sale(14),
-        Sold::NotThatDay => no_sale(15),
-        Sold::NotBefore => no_sale(16),
-        Sold::NoBoarding => no_sale(17),
-        Sold::NoLeaving => no_sale(18),
-        Sold::OneSection => no_sale(19),
-        Sold::At(departure, arrival) => Row {
-            number: 0,
-            departure,
-            arrival,
-        },
-    }
-}
 
 // The answer to the question whose seven numbers start at place i.
 fn ask_at(
@@ -70,14 +39,15 @@ fn ask_at(
     requires { ⌜ (i + 7 ≤ length (now asked)) × LinesMet (recordsIn (fieldsOf linesFile) (now f5)) (recordsIn (fieldsOf tripsFile) (now f6)) × Ready codesFile (now f3) (now order) (now ways) × Ready linesFile (now f5) (now order) (now ways) × Ready tripsFile (now f6) (now order) (now ways) × Ready 7 (now f7) (now order) (now ways) × Ready tripStopsFile (now f8) (now order) (now ways) × Ready timeCodesFile (now f10) (now order) (now ways) × Classes (now class) ⌝ }
     ensures { λ r. ⌜ rowAt (plainly (recordsIn (fieldsOf codesFile) (now (f3 .entry))) (recordsIn (fieldsOf linesFile) (now (f5 .entry))) (recordsIn (fieldsOf tripsFile) (now (f6 .entry))) (recordsIn (fieldsOf 7) (now (f7 .entry))) (recordsIn (fieldsOf tripStopsFile) (now (f8 .entry))) (recordsIn (fieldsOf timeCodesFile) (now (f10 .entry))) (now (holidays .entry))) (now (asked .entry)) i ≡ r .number ∷ r .departure ∷ r .arrival ∷ [] ⌝ }
 {
+    let q = question_at(asked, i);
     row_of(sale_on(
-        asked[i],
-        asked[i + 1],
-        asked[i + 2],
-        asked[i + 3],
-        asked[i + 4],
-        asked[i + 5],
-        asked[i + 6],
+        q.line,
+        q.trip,
+        q.day,
+        q.month,
+        q.year,
+        q.from,
+        q.to,
         f3,
         f5,
         f6,
@@ -111,7 +81,7 @@ pub fn answer_all(
 {
     let mut i = 0;
     let mut at = 0;
-    while asked.len() - i >= 7 {
+    while is_asked(asked, i) {
         let row = ask_at(
             asked,
             i,
@@ -126,8 +96,7 @@ pub fn answer_all(
             class,
             holidays,
         );
-        put_row(list, at, row);
+        at = put_row(list, at, row);
         i += 7;
-        at += 3;
     }
 }

@@ -27,14 +27,15 @@ pub struct Row {
     pub arrival: u64,
 }
 
-// inner: three numbers into the list
-pub fn put_row(list: &mut [u64], at: usize, row: Row)
+// inner: three numbers into the list; the place behind them
+pub fn put_row(list: &mut [u64], at: usize, row: Row) -> usize
     requires { ⌜ at + 3 ≤ length (now list) ⌝ }
-    ensures { λ _. ⌜ now (list .exit) ≡ splice (now (list .entry)) at (row .number ∷ row .departure ∷ row .arrival ∷ []) ⌝ }
+    ensures { λ r. ⌜ (r ≡ at + 3) × (now (list .exit) ≡ splice (now (list .entry)) at (row .number ∷ row .departure ∷ row .arrival ∷ [])) ⌝ }
 {
     list[at] = row.number;
     list[at + 1] = row.departure;
     list[at + 2] = row.arrival;
+    at + 3
 }
 
 // inner: how many questions there are, or 22 where their answers don't fit into the list

@@ -1,11 +1,12 @@
 -- `answering::answer_all` meets its contract. The loop's invariant speaks of what is left: the answers that are left, laid over the list as it is,
 -- give the list that is wanted.
-use mathlib.Core.Path.{_≡_, refl, _∙_}
+use mathlib.Core.Path.{_≡_, refl, sym, _∙_}
 use mathlib.Core.List.{List}
 use Prim.Native.Nat.{ℕ, _+_, _*_, _-_, _≤_}
 use native.Mathlib.Omega.{arith}
 use lib.ListN.{length, drop}
 use denote.Ref.{now}
+use borrow.Author.Tests.{leb-true, leb-false}
 use Rattle.laws.specs.Splice.{splice}
 use Rattle.file.specs.Files.{fieldsOf}
 use Rattle.file.specs.Records.{recordsIn}
@@ -43,53 +44,51 @@ loop-holds c =
     (omega arith, omega (arith, h), refl, refl)
 
 -- in the loop there is one question more, so the list has room for its answer
-one-more : (c : tie.In-loop Inv-loop μ-loop) → c .before .loop .i + 7 ≤ length (now (begin (c .before) .args .asked))
-one-more c = omega (arith, c .loop-test, c .before .loop .inv .0)
+one-more : (c : tie.Then1 Inv-loop μ-loop) → c .before .before .loop .i + 7 ≤ length (now (begin (c .before .before) .args .asked))
+one-more c =
+    let l = c .before .before in
+    leb-true (l .loop .i + 7) (length (now (begin l .args .asked))) (sym (c .before .is-asked .ensures) ∙ c .if1 .taken)
 
 ask-at-requires : tie.Need-ask-at-requires Inv-loop μ-loop
 ask-at-requires c κs =
-    let p = begin (c .before) .pre in
+    let p = begin (c .before .before) .pre in
     (one-more c, p .1, p .2, p .3, p .4, p .5, p .6, p .7, p .8)
 
 put-row-requires : tie.Need-put-row-requires Inv-loop μ-loop
 put-row-requires c κs =
     let t = c .before .before in
-    let l = t .before in
+    let l = t .before .before in
     omega (arith, l .loop .inv .1, questions-turn (now (begin l .args .asked)) (l .loop .i) (one-more t))
 
 -- with it laid, there is room for the rest
 room : (c : tie.After-put-row Inv-loop μ-loop)
-    → let l = c .before .before .before .before in
+    → let l = c .before .before .before .before .before in
     l .loop .at + 3 + 3 * questions (drop (l .loop .i + 7) (now (begin l .args .asked))) ≤ length (c .put-row .last .0)
 room c =
     let t = c .before .before .before in
-    let l = t .before in
+    let l = t .before .before in
     omega (arith, l .loop .inv .1, c .put-row .kept .0, questions-turn (now (begin l .args .asked)) (l .loop .i) (one-more t))
-
-add-at : tie.Need-add-at Inv-loop μ-loop
-add-at c =
-    let p = c .before .before in
-    let l = p .before .before .before .before in
-    omega (arith, room p, p .put-row .kept .0, l .loop .inv .2, begin l .good .1 .0)
 
 loop-again : tie.Need-loop-again Inv-loop μ-loop
 loop-again c =
     let p = c .before .before in
     let k = p .before .before in
     let t = k .before in
-    let l = t .before in
-    let s = begin l in (
+    let l = t .before .before in
+    let s = begin l in
+    let e = p .put-row .ensures in (
       one-more t,
-      room p,
+      omega (arith, room p, e .0),
       p .put-row .kept .0 ∙ l .loop .inv .2,
-      laid-turn (answers s) (now (s .args .asked)) (l .loop .list) (l .loop .i) (l .loop .at) (one-more t) (l .loop .inv .1) (k .ask-at .ensures) (p .put-row .ensures) ∙ l .loop .inv .3,
+      rw (e .0) (laid-turn (answers s) (now (s .args .asked)) (l .loop .list) (l .loop .i) (l .loop .at) (one-more t) (l .loop .inv .1) (k .ask-at .ensures) (e .1) ∙ l .loop .inv .3),
     )
 
 returns : tie.Need-returns Inv-loop μ-loop
 returns c =
-    let l = c .before in
+    let l = c .before .before in
     let s = begin l in
-    let h : length (now (s .args .asked)) ≤ l .loop .i + 6 = omega (arith, c .loop-test) in
+    let n = length (now (s .args .asked)) in
+    let h : n ≤ l .loop .i + 6 = omega (arith, leb-false (l .loop .i + 7) n (sym (c .before .is-asked .ensures) ∙ c .if1 .left)) in
     laid-all (answers s) (now (s .args .asked)) (l .loop .list) (l .loop .i) (l .loop .at) h (l .loop .inv .3)
 
 pub answer-all-spec : {M : Type 1} → statement M
@@ -99,12 +98,11 @@ answer-all-spec =
     Inv-loop
     μ-loop
     loop-holds
-    (λ c. omega arith)  -- sub-loop
+    (λ c κs. c .loop .inv .0)  -- is-asked-requires
     ask-at-requires
     put-row-requires
-    (λ c. omega arith)  -- add-i
-    add-at
-    (λ c. omega arith)  -- loop-less
+    (λ c. omega (arith, one-more (c .before .before .before .before .before)))  -- add-i
+    (λ c. omega (arith, one-more (c .before .before .before .before .before)))  -- loop-less
     loop-again
     (λ c. omega arith)  -- same-length
     returns)

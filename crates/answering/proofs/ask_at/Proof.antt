@@ -7,32 +7,13 @@ use Rattle.answering.proofs.ask_at.Statement.{statement}
 use Rattle.answering.proofs.ask_at.Tie as tie
 
 returns : tie.Need-returns
-returns c = ap (λ (a : Numbered). row a) (sym (c .before .sale-on .ensures)) ∙ c .row-of .ensures
+returns c = ap (λ (a : Numbered). row a) (sym (rw (c .before .before .question-at .ensures) at (c .before .sale-on .ensures))) ∙ c .row-of .ensures
 
 pub ask-at-spec : {M : Type 1} → statement M
 ask-at-spec =
     tie.close
     (tie.spec
-    (λ c. search needs)  -- mul-sale-on
-    (λ c. search needs)  -- shared-slice-read-sale-on
-    (λ c. search needs)  -- add-sale-on
-    (λ c. search needs)  -- mul-sale-on-2
-    (λ c. search needs)  -- shared-slice-read-sale-on-2
-    (λ c. search needs)  -- add-sale-on-2
-    (λ c. search needs)  -- mul-sale-on-3
-    (λ c. search needs)  -- shared-slice-read-sale-on-3
-    (λ c. search needs)  -- add-sale-on-3
-    (λ c. search needs)  -- mul-sale-on-4
-    (λ c. search needs)  -- shared-slice-read-sale-on-4
-    (λ c. search needs)  -- add-sale-on-4
-    (λ c. search needs)  -- mul-sale-on-5
-    (λ c. search needs)  -- shared-slice-read-sale-on-5
-    (λ c. search needs)  -- add-sale-on-5
-    (λ c. search needs)  -- mul-sale-on-6
-    (λ c. search needs)  -- shared-slice-read-sale-on-6
-    (λ c. search needs)  -- add-sale-on-6
-    (λ c. search needs)  -- mul-sale-on-7
-    (λ c. search needs)  -- shared-slice-read-sale-on-7
+    (λ c κs. search needs)  -- question-at-requires
     (λ c κs. search needs)  -- sale-on-requires
     (λ c κs. search needs)  -- row-of-requires
     returns)

@@ -1,4 +1,5 @@
 -- `asking::put_row` meets its contract: three stores side by side are one splice.
+use mathlib.Core.Path.{refl}
 use native.Mathlib.Omega.{arith}
 use denote.Ref.{now}
 use lib.ListN.{length-set}
@@ -16,7 +17,7 @@ slice-write-list-3 c = simp length-set (omega arith)
 returns : tie.Need-returns
 returns c =
     let a = c .args in
-    three-stores (now (a .list)) (a .at) _ _ _ (c .pre)
+    (refl, three-stores (now (a .list)) (a .at) _ _ _ (c .pre))
 
 pub put-row-spec : {M : Type 1} → statement M
 put-row-spec =
@@ -30,5 +31,6 @@ put-row-spec =
     (λ c. search needs)  -- add-list-2
     (λ c. search needs)  -- mul-list-3
     slice-write-list-3
+    (λ c. search needs)  -- add-result
     (λ c. search needs)  -- same-length
     returns)

@@ -1,9 +1,9 @@
--- `answering::row_of` meets its contract: a refusal has its number and no minutes, an answer has 0 and its two.
+-- `question::row_of` meets its contract: a refusal has its number and no minutes, an answer has 0 and its two.
 use borrow.Author.Needs.{needs}
 use Rattle.boarding.specs.Answers.{numberedSold}
 use Rattle.asking.specs.Rows.{row}
-use Rattle.answering.proofs.row_of.Statement.{statement}
-use Rattle.answering.proofs.row_of.Tie as tie
+use Rattle.question.proofs.row_of.Statement.{statement}
+use Rattle.question.proofs.row_of.Tie as tie
 
 returns : tie.Need-returns
 unfolding row numberedSold

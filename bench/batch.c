@@ -20,23 +20,14 @@
 #include <stdlib.h>
 #include <string.h>
 
+#include "draws.h"
+
 enum {
     VERZEJDF = 1, ZASTAVKY, PEVNYKOD, DOPRAVCI, LINKY, SPOJE, ZASLINKY, ZASSPOJE, UDAJE, CASKODY, ALTDOP, ALTLINKY, MISTENKY,
     ROOM = BATCH_LONGEST + 4096,
     FULL = BATCH_LONGEST - 65536, /* no line has so many bytes in one file */
     MOST_STOPS = 13,
 };
-
-static uint64_t state;
-
-/* Each call changes what the next one gives: no two stand in one expression or argument list, whose order a compiler chooses. */
-static uint64_t below(uint64_t end)
-{
-    state ^= state << 13;
-    state ^= state >> 7;
-    state ^= state << 17;
-    return (state >> 11) % end;
-}
 
 static int one_in(uint64_t n)
 {

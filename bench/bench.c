@@ -10,6 +10,7 @@
 #include <time.h>
 
 #include "../host/slovdrim.h"
+#include "draws.h"
 #include "scan.h"
 
 enum { FILE_NUMBER = SLOVDRIM_ZASSPOJE, FIELDS = 10, LENGTH = 16000000, MOST_ROUNDS = 1001 };
@@ -17,16 +18,6 @@ enum { FILE_NUMBER = SLOVDRIM_ZASSPOJE, FIELDS = 10, LENGTH = 16000000, MOST_ROU
 /* Compiled from scan.c by two compilers, under two names. */
 struct scanned scan_gcc(uint64_t fields, const uint8_t *bytes, size_t length);
 struct scanned scan_clang(uint64_t fields, const uint8_t *bytes, size_t length);
-
-static uint64_t state;
-
-static uint64_t below(uint64_t end)
-{
-    state ^= state << 13;
-    state ^= state >> 7;
-    state ^= state << 17;
-    return (state >> 11) % end;
-}
 
 static char *put_field(char *p, const char *text, int last)
 {

@@ -3,17 +3,9 @@
 
 #include <string.h>
 
+#include "draws.h"
+
 enum { ZASTAVKY = 2, SPOJE = 6, FIRST_DAY = 36890 };
-
-static uint64_t state;
-
-static uint64_t below(uint64_t end)
-{
-    state ^= state << 13;
-    state ^= state >> 7;
-    state ^= state << 17;
-    return (state >> 11) % end;
-}
 
 /* The start of some record of a file: the one behind the first LF after a place, or the first. */
 static const uint8_t *some_record(const struct batch *batch, unsigned file)

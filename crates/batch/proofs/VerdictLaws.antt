@@ -3,7 +3,7 @@ use mathlib.Core.Path.{_≡_, sym, ap, _∙_}
 use mathlib.Core.Bool.{Bool, true, false, not}
 use mathlib.Core.List.{[]}
 use native.Mathlib.Omega.{arith}
-use borrow.Author.Tests.{ne-eqb}
+use borrow.Author.Tests.{not-true}
 use lib.Dec.{eqb}
 use Rattle.laws.specs.Numbered.{Numbered, answered}
 use Rattle.keys.specs.KeyFiles.{KeyFile}
@@ -11,7 +11,7 @@ use Rattle.links.proofs.KeyedLaws.{sound-keys}
 use Rattle.thirteen.specs.Batch.{Batch, fileIn}
 use Rattle.fault.specs.Answers.{numberedFault}
 use Rattle.fault.specs.declared.Fault.{Fault}
-use Rattle.fault.proofs.FaultLaws.{is-some, is-zero, none-zero}
+use Rattle.fault.proofs.FaultLaws.{is-zero, none-zero}
 use Rattle.batch.specs.Order.{faultOf}
 use Rattle.counts.specs.Counted.{Counted}
 use Rattle.counts.specs.declared.Counts.{Counts}
@@ -22,11 +22,12 @@ use Rattle.batch.proofs.AcceptedLaws.{standing}
 
 module _ (b : Batch) (f : Fault) (e : numberedFault f ≡ faultOf b) (t : Bool) (d : t ≡ eqb (numberedFault f .number) 0) where
   -- a fault was found
+  pub a-fault : not t ≡ true → eqb (faultOf b .number) 0 ≡ false
+  a-fault h = ap (λ (a : Numbered). eqb (a .number) 0) (sym e) ∙ sym d ∙ not-true t h
+
   pub refused : not t ≡ true → numberedVerdict (Verdict.Refused f) ≡ verdictOf b
   unfolding numberedVerdict verdictOf
-  refused h =
-      let z : faultOf b .number ≡ 0 → ⊥ = λ x. is-some f t d h (ap (λ (a : Numbered). a .number) e ∙ x) in
-      e ∙ rw (ne-eqb (faultOf b .number) 0 z)
+  refused h = rw (a-fault h) e
 
   -- none was
   pub no-fault : not t ≡ false → faultOf b ≡ answered []

@@ -1,12 +1,11 @@
 -- The batch whose stops are asked: its refusal comes first.
-use mathlib.Core.Path.{_≡_, sym, ap, _∙_}
+use mathlib.Core.Path.{_≡_, _∙_}
 use mathlib.Core.Bool.{Bool, true, false, not}
 use mathlib.Core.List.{List, []}
 use Prim.Native.Nat.{ℕ, _≤_}
 use native.Mathlib.Omega.{arith}
 use lib.Dec.{eqb}
 use lib.ListN.{length}
-use borrow.Author.Tests.{not-true}
 use Rattle.laws.specs.Numbered.{Numbered, answered}
 use Rattle.file.specs.Format.{Text}
 use Rattle.lookup.specs.Ways.{Ways}
@@ -17,7 +16,7 @@ use Rattle.fault.specs.Answers.{numberedFault}
 use Rattle.fault.specs.declared.Fault.{Fault}
 use Rattle.batch.specs.Order.{faultOf}
 use Rattle.batch.proofs.AcceptedLaws.{standing}
-use Rattle.batch.proofs.VerdictLaws.{no-fault}
+use Rattle.batch.proofs.VerdictLaws.{no-fault, a-fault}
 use Rattle.byname.specs.Counting.{countOn}
 use Rattle.byname.proofs.CountLaws.{count-on-is}
 use Rattle.naming.specs.Names.{nameAnswer}
@@ -27,9 +26,7 @@ module _ (b : Batch) (town part place : Text) (f : Fault) (e : numberedFault f �
   -- its own refusal comes first
   pub answer-refused : not t ≡ true → numberedFault f ≡ nameAnswer b town part place
   unfolding nameAnswer
-  answer-refused h =
-      let z : eqb (faultOf b .number) 0 ≡ false = ap (λ (a : Numbered). eqb (a .number) 0) (sym e) ∙ sym d ∙ not-true t h in
-      rw z e
+  answer-refused h = rw (a-fault b f e t d h) e
 
   -- else its stops are asked
   pub answer-is : not t ≡ false → {x : Numbered} → x ≡ countOn town part place 0 0 (recordsOf b 2) → x ≡ nameAnswer b town part place

@@ -9,9 +9,10 @@ use Rattle.thirteen.specs.Batch.{Batch, recordsOf}
 use Rattle.fault.specs.Answers.{numberedFault}
 use Rattle.fault.specs.declared.Fault.{Fault}
 use Rattle.batch.specs.Order.{faultOf}
+use Rattle.batch.proofs.VerdictLaws.{no-fault, a-fault}
 use Rattle.ticket.specs.Plain.{plainSale}
 use Rattle.selling.specs.Answers.{saleAnswer}
-use Rattle.selling.proofs.SellingLaws.{no-fault, a-fault, sale-plain}
+use Rattle.selling.proofs.SellingLaws.{sale-plain}
 
 -- A BATCH. What was found of it, and whether it is nothing.
 module _ (b : Batch) (f : Fault) (e : numberedFault f ≡ faultOf b) (t : Bool) (d : t ≡ eqb (numberedFault f .number) 0) where

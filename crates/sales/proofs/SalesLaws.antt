@@ -13,13 +13,14 @@ use Rattle.thirteen.specs.Batch.{Batch, recordsOf}
 use Rattle.fault.specs.Answers.{numberedFault}
 use Rattle.fault.specs.declared.Fault.{Fault}
 use Rattle.batch.specs.Order.{faultOf}
+use Rattle.batch.proofs.VerdictLaws.{a-fault}
 use Rattle.asking.specs.Rows.{rows, questions}
 use Rattle.asking.specs.Answers.{numberedSales}
 use Rattle.asking.specs.declared.Sales.{Sales}
 use Rattle.asking.proofs.RowLaws.{rows-same, room-short, room-enough}
 use Rattle.answering.specs.Plainly.{plainly}
 use Rattle.selling.specs.Sales.{single, salesAnswer, salesList, SalesIs}
-use Rattle.selling.proofs.SellingLaws.{a-fault, sale-plain, list-kept}
+use Rattle.selling.proofs.SellingLaws.{sale-plain, list-kept}
 
 -- A BATCH, the questions, and the lent list.
 module _ (b : Batch) (holidays asked list : List ℕ) where

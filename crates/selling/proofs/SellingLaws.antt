@@ -1,17 +1,13 @@
--- A sale and many sales, asked of a batch: whether it has a fault; with none, what its records say; with a refusal, that the list is kept.
-use mathlib.Core.Path.{_≡_, sym, ap, _∙_}
-use mathlib.Core.Bool.{Bool, true, false, not}
+-- A sale and many sales, asked of a batch: with no fault, what its records say; with a refusal, that the list is kept.
+use mathlib.Core.Path.{_≡_}
+use mathlib.Core.Bool.{false}
 use mathlib.Core.List.{List, []}
 use Prim.Native.Nat.{ℕ}
 use lib.Dec.{eqb}
 use lib.ListN.{length}
-use borrow.Author.Tests.{not-true}
 use Rattle.laws.specs.Numbered.{Numbered, answered}
 use Rattle.thirteen.specs.Batch.{Batch, recordsOf}
 use Rattle.roll.proofs.StandingLaws.{line-met}
-use Rattle.fault.specs.Answers.{numberedFault}
-use Rattle.fault.specs.declared.Fault.{Fault}
-use Rattle.fault.proofs.FaultLaws.{none-zero, is-zero}
 use Rattle.batch.specs.Order.{faultOf}
 use Rattle.batch.proofs.AcceptedLaws.{standing}
 use Rattle.ticket.specs.Plain.{plainSale, LinesMet}
@@ -19,15 +15,7 @@ use Rattle.ticket.proofs.ViewOfSale.{plain-sale}
 use Rattle.selling.specs.Answers.{saleAnswer}
 use Rattle.selling.specs.Sales.{salesAnswer, salesList}
 
--- A BATCH. What was found of it, and whether it is nothing.
-module _ (b : Batch) (f : Fault) (e : numberedFault f ≡ faultOf b) (t : Bool) (d : t ≡ eqb (numberedFault f .number) 0) where
-  pub no-fault : not t ≡ false → faultOf b ≡ answered []
-  no-fault h = sym e ∙ none-zero f (is-zero f t d h)
-
-  pub a-fault : not t ≡ true → eqb (faultOf b .number) 0 ≡ false
-  a-fault h = ap (λ (a : Numbered). eqb (a .number) 0) (sym e) ∙ sym d ∙ not-true t h
-
--- IT HAS NO FAULT. The line of each of its trips is there
+-- A BATCH WITH NO FAULT. The line of each of its trips is there
 module _ (b : Batch) (e : faultOf b ≡ answered []) where
   pub lines-met : LinesMet (recordsOf b 5) (recordsOf b 6)
   lines-met line trip = line-met b line trip (standing b e .linking)

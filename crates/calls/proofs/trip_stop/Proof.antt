@@ -7,8 +7,11 @@ use denote.Ref.{now}
 use Rattle.laws.specs.Numbered.{answered}
 use Rattle.thirteen.specs.Batch.{Batch, thirteen, fileIn}
 use Rattle.batch.specs.Order.{faultOf}
+use Rattle.batch.proofs.AcceptedLaws.{standing}
+use Rattle.batch.proofs.VerdictLaws.{no-fault}
+use Rattle.roll.proofs.StandingLaws.{standing-ready}
 use Rattle.outcome.specs.Answers.{numberedStop}
-use Rattle.calls.proofs.CallsLaws.{answer-refused, no-fault, answer-is, files-ready}
+use Rattle.calls.proofs.CallsLaws.{answer-refused, answer-is}
 use Rattle.calls.proofs.trip_stop.Statement.{statement}
 use Rattle.calls.proofs.trip_stop.Tie as tie
 
@@ -32,8 +35,7 @@ nothing : (c : tie.Else1) → faultOf (files (begin (c .before .before .before))
 nothing c =
     let i = c .before in
     let k = i .before .before in
-    let a = begin k .args in
-    no-fault (files (begin k)) (a .line) (a .trip) (a .n) _ (k .check-with .ensures .0) _ (i .is-none .ensures) (c .if1 .left)
+    no-fault (files (begin k)) _ (k .check-with .ensures .0) _ (i .is-none .ensures) (c .if1 .left)
 
 answer-stop-requires : tie.Need-answer-stop-requires
 unfolding fileIn
@@ -41,8 +43,8 @@ answer-stop-requires c κs =
     let e = c .before .before in
     let k = e .before .before .before in
     let s = begin k in
-    let r = files-ready (files s) (now (s .args .order)) (k .check-with .last .1 .1 .1 .1 .1 .1 .1 .1 .1 .1 .1 .1 .1 .1 .0) (nothing e) (k .check-with .ensures .1 (nothing e)) (omega (arith, k .check-with .kept .1 .1 .1 .1 .1 .1 .1 .1 .1 .1 .1 .1 .1 .1 .0)) in
-    (r .codes, r .trips, r .lineStops, r .stops, k .before .before .before .classes .ensures)
+    let r = standing-ready (files s) (now (s .args .order)) (k .check-with .last .1 .1 .1 .1 .1 .1 .1 .1 .1 .1 .1 .1 .1 .1 .0) (standing (files s) (nothing e)) (k .check-with .ensures .1 (nothing e)) (omega (arith, k .check-with .kept .1 .1 .1 .1 .1 .1 .1 .1 .1 .1 .1 .1 .1 .1 .0)) in
+    (r .codes, r .trips, r .lineStops, r .tripStops, k .before .before .before .classes .ensures)
 
 returns-2 : tie.Need-returns-2
 unfolding fileIn

@@ -1,13 +1,15 @@
 -- `counter::runs` meets its contract: the batch is checked first, and where there is no fault, what the records say is the answer.
-use mathlib.Core.Path.{sym, _∙_}
+use mathlib.Core.Path.{_∙_}
 use Prim.Native.Nat.{_≤_}
 use native.Mathlib.Omega.{arith}
 use lib.ListN.{length}
 use borrow.Author.Needs.{needs}
-use borrow.Author.Tests.{not-true, not-false}
 use Rattle.thirteen.specs.Batch.{fileIn}
 use Rattle.outcome.specs.Answers.{numberedRuns}
-use Rattle.counter.proofs.RunsLaws.{asked, no-fault, runs-refused, runs-no-day, runs-plain}
+use Rattle.batch.proofs.AcceptedLaws.{standing}
+use Rattle.batch.proofs.VerdictLaws.{no-fault}
+use Rattle.roll.proofs.StandingLaws.{standing-ready, line-met}
+use Rattle.counter.proofs.RunsLaws.{runs-refused, runs-no-day, runs-plain}
 use Rattle.counter.proofs.runs.Statement.{statement}
 use Rattle.counter.proofs.runs.Tie as tie
 
@@ -15,7 +17,7 @@ returns : tie.Need-returns
 unfolding numberedRuns
 returns c =
     let n = c .before in
-    runs-refused _ _ _ _ _ _ (n .before .before .check-with .ensures .0) (sym (n .is-none .ensures) ∙ not-true (n .is-none .result) (c .if1 .taken))
+    runs-refused _ _ _ _ _ _ (n .before .before .check-with .ensures .0) _ (n .is-none .ensures) (c .if1 .taken)
 
 returns-2 : tie.Need-returns-2
 unfolding numberedRuns
@@ -23,8 +25,7 @@ returns-2 c =
     let l = c .before in
     let n = l .before in
     let k = n .before .before .check-with in
-    let e = no-fault _ (sym (n .is-none .ensures) ∙ not-false (n .is-none .result) (l .if1 .left)) in
-    runs-no-day _ _ _ _ _ (sym (k .ensures .0) ∙ e) (c .if2 .taken)
+    runs-no-day _ _ _ _ _ (no-fault _ _ (k .ensures .0) _ (n .is-none .ensures) (l .if1 .left)) (c .if2 .taken)
 
 slice-aggregate-answer-runs : tie.Need-slice-aggregate-answer-runs
 slice-aggregate-answer-runs c = search needs
@@ -36,11 +37,11 @@ answer-runs-requires c κs =
     let l = t .before in
     let n = l .before in
     let k = n .before .before .check-with in
-    let e = no-fault _ (sym (n .is-none .ensures) ∙ not-false (n .is-none .result) (l .if1 .left)) in
-    let none = sym (k .ensures .0) ∙ e in
+    let none = no-fault _ _ (k .ensures .0) _ (n .is-none .ensures) (l .if1 .left) in
     let h : 33 ≤ length (k .last .1 .1 .1 .1 .1 .1 .1 .1 .1 .1 .1 .1 .1 .1 .0) = omega (arith, slice-aggregate-answer-runs (c .before)) in
-    let q = asked _ _ _ _ _ none (k .ensures .1 none) h in
-    (q .met, q .codes, q .lines, q .trips, q .times, n .before .before .before .before .before .classes .ensures, t .if2 .left)
+    let s = standing _ none in
+    let r = standing-ready _ _ _ s (k .ensures .1 none) h in
+    (line-met _ _ _ (s .linking), r .codes, r .lines, r .trips, r .timeCodes, n .before .before .before .before .before .classes .ensures, t .if2 .left)
 
 returns-3 : tie.Need-returns-3
 unfolding fileIn
@@ -48,8 +49,8 @@ returns-3 c =
     let t = c .before .before .before in
     let l = t .before in
     let n = l .before in
-    let e = no-fault _ (sym (n .is-none .ensures) ∙ not-false (n .is-none .result) (l .if1 .left)) in
-    c .answer-runs .ensures ∙ runs-plain _ _ _ _ _ (sym (n .before .before .check-with .ensures .0) ∙ e) (t .if2 .left)
+    let none = no-fault _ _ (n .before .before .check-with .ensures .0) _ (n .is-none .ensures) (l .if1 .left) in
+    c .answer-runs .ensures ∙ runs-plain _ _ _ _ _ none (t .if2 .left)
 
 pub runs-spec : {M : Type 1} → statement M
 runs-spec =

@@ -10,9 +10,10 @@ use Rattle.laws.specs.Numbered.{answered}
 use Rattle.thirteen.specs.Batch.{Batch, thirteen, fileIn}
 use Rattle.batch.specs.Order.{faultOf}
 use Rattle.batch.proofs.AcceptedLaws.{standing}
+use Rattle.batch.proofs.VerdictLaws.{no-fault}
 use Rattle.roll.proofs.StandingLaws.{standing-ready}
 use Rattle.outcome.specs.Answers.{numberedSale}
-use Rattle.selling.proofs.SellingLaws.{no-fault, lines-met}
+use Rattle.selling.proofs.SellingLaws.{lines-met}
 use Rattle.sale.proofs.SaleLaws.{sale-refused, sale-told}
 use Rattle.sale.proofs.may_sell.Statement.{statement}
 use Rattle.sale.proofs.may_sell.Tie as tie

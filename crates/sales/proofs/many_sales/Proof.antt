@@ -10,8 +10,9 @@ use Rattle.laws.specs.Numbered.{answered}
 use Rattle.thirteen.specs.Batch.{Batch, thirteen, fileIn}
 use Rattle.batch.specs.Order.{faultOf}
 use Rattle.batch.proofs.AcceptedLaws.{standing}
+use Rattle.batch.proofs.VerdictLaws.{no-fault}
 use Rattle.roll.proofs.StandingLaws.{standing-ready}
-use Rattle.selling.proofs.SellingLaws.{no-fault, lines-met}
+use Rattle.selling.proofs.SellingLaws.{lines-met}
 use Rattle.sales.proofs.SalesLaws.{sales-refused, sales-no-room, sales-fit, sales-answered}
 use Rattle.sales.proofs.many_sales.Statement.{statement}
 use Rattle.sales.proofs.many_sales.Tie as tie

@@ -5,9 +5,9 @@ use borrow.Author.Needs.{needs}
 use Prim.Native.Nat.{_-_, _≤_}
 use lib.ListN.{length, getD}
 use denote.Ref.{now}
-use Rattle.jdfcheck.proofs.BufferLaws.{stand-at}
-use Rattle.jdfcheck.proofs.part.Statement.{statement}
-use Rattle.jdfcheck.proofs.part.Tie as tie
+use Rattle.buffer.proofs.BufferLaws.{stand-at}
+use Rattle.buffer.proofs.part.Statement.{statement}
+use Rattle.buffer.proofs.part.Tie as tie
 
 -- where the file stands
 abbrev stands : (c : tie.After-to) → let a = c .before .before .args in (getD (now (a .ends)) (a .file - 1) 0 ≤ getD (now (a .ends)) (a .file) 0) × (getD (now (a .ends)) (a .file) 0 ≤ length (now (a .buf)))

@@ -3,12 +3,6 @@ use mathlib.Core.List.{List}
 use Prim.Native.Nat.{ℕ, _+_, _-_, _≤_, _<_}
 use lib.ListN.{getD, take, drop}
 use Rattle.thirteen.specs.Batch.{Batch, thirteen}
-use Rattle.jdfcheck.specs.declared.Filled.{Filled}
-
--- a file that was read from `at` on ends in the buffer
-abbrev pub Reached : ℕ → ℕ → Filled → Type 0
-Reached at size (Filled.To next) = (at ≤ next) × (next ≤ size)
-Reached at size Filled.Failed = Unit
 
 -- the first `count` files stand in the buffer, one behind the other
 abbrev pub Stand : ℕ → ℕ → List ℕ → Type 0

@@ -5,8 +5,8 @@ use borrow.Author.Needs.{needs}
 use mathlib.Core.Path.{_≡_}
 use lib.ListN.{length, length-set}
 use lib.Seq.{getD-set-same}
-use Rattle.jdfcheck.proofs.ended.Statement.{statement}
-use Rattle.jdfcheck.proofs.ended.Tie as tie
+use Rattle.loading.proofs.ended.Statement.{statement}
+use Rattle.loading.proofs.ended.Tie as tie
 
 abbrev Inv-loop : tie.InvT-loop
 Inv-loop name path₀ i₀ path i = (i ≤ length name) × (length path ≡ 4096)

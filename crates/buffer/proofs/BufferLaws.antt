@@ -1,24 +1,12 @@
--- The buffer: what stands before a part that was lent stays, and files stand one behind the other.
-use mathlib.Core.Path.{_≡_, subst, _∙_}
+-- The buffer: files stand one behind the other.
+use mathlib.Core.Path.{_≡_, subst}
 use mathlib.Core.List.{List}
 use Prim.Native.Nat.{ℕ, _+_, _-_, _≤_, _<_}
 use native.Mathlib.Omega.{arith}
 use native.Mathlib.Decide.{ℕ-discrete}
-use borrow.Rule.Slice.PartMut.{midOf, putMid}
-use lib.ListN.{length, getD, take, set, length-drop}
-use lib.Seq.{take-append-le, take-take, length-take-le, getD-set-same, getD-set-other}
-use Rattle.laws.specs.Splice.{mid-all, put-all}
-use Rattle.jdfcheck.specs.Buffer.{Stand}
-
--- the rest of the buffer was lent
-pub kept : (from at : ℕ) (d ys : List ℕ) → from ≤ at → at ≤ length d → take from (putMid at (length d - at) d ys) ≡ take from d
-kept from at d ys h l =
-    rw (put-all d at ys)
-    (take-append-le from (take at d) ys (omega (arith, length-take-le at d l)) ∙ take-take from at d h)
-
--- what was read into it ends in the buffer
-pub in-rest : (at n : ℕ) (d : List ℕ) → at ≤ length d → n ≤ length (midOf at (length d - at) d) → at + n ≤ length d
-in-rest at n d h l = omega (arith, rw (mid-all d at, length-drop) at l)
+use lib.ListN.{length, getD, set}
+use lib.Seq.{getD-set-same, getD-set-other}
+use Rattle.buffer.specs.Buffer.{Stand}
 
 -- where a file stands
 pub stand-at : (size : ℕ) (ends : List ℕ) (file : ℕ) → Stand 13 size ends → 1 ≤ file → file ≤ 13 → (getD ends (file - 1) 0 ≤ getD ends file 0) × (getD ends file 0 ≤ size)

@@ -6,9 +6,9 @@ use native.Mathlib.Omega.{arith}
 use borrow.Author.Needs.{needs}
 use borrow.Rule.Slice.PartMut.{putMid}
 use lib.ListN.{length, take}
-use Rattle.jdfcheck.proofs.BufferLaws.{kept, in-rest}
-use Rattle.jdfcheck.proofs.fill.Statement.{statement}
-use Rattle.jdfcheck.proofs.fill.Tie as tie
+use Rattle.loading.proofs.RestLaws.{kept, in-rest}
+use Rattle.loading.proofs.fill.Statement.{statement}
+use Rattle.loading.proofs.fill.Tie as tie
 
 abbrev Inv-loop : tie.InvT-loop
 Inv-loop fd buf₀ from at₀ buf at = (from ≤ at) × (at ≤ length buf) × (length buf ≡ length buf₀) × (take from buf ≡ take from buf₀)

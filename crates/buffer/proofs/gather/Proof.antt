@@ -7,10 +7,10 @@ use denote.Ref.{now}
 use lib.ListN.{length, getD, length-set}
 use lib.Seq.{getD-set-same}
 use Rattle.laws.specs.Tests.{never}
-use Rattle.jdfcheck.specs.Buffer.{Stand}
-use Rattle.jdfcheck.proofs.BufferLaws.{stand-next}
-use Rattle.jdfcheck.proofs.gather.Statement.{statement}
-use Rattle.jdfcheck.proofs.gather.Tie as tie
+use Rattle.buffer.specs.Buffer.{Stand}
+use Rattle.buffer.proofs.BufferLaws.{stand-next}
+use Rattle.buffer.proofs.gather.Statement.{statement}
+use Rattle.buffer.proofs.gather.Tie as tie
 
 abbrev Inv-loop : tie.InvT-loop
 Inv-loop buf₀ ends₀ file₀ at₀ buf ends file at =

@@ -1,8 +1,8 @@
--- `wording::place_of` hands on each case of a fault.
+-- `verdictline::place_of` hands on each case of a fault.
 use borrow.Author.Needs.{needs}
 use Rattle.fault.specs.Answers.{numberedFault}
-use Rattle.wording.proofs.place_of.Statement.{statement}
-use Rattle.wording.proofs.place_of.Tie as tie
+use Rattle.verdictline.proofs.place_of.Statement.{statement}
+use Rattle.verdictline.proofs.place_of.Tie as tie
 
 returns : tie.Need-returns
 unfolding numberedFault

@@ -1,8 +1,8 @@
--- `wording::file_place` hands on each case of a file's refusal.
+-- `verdictline::file_place` hands on each case of a file's refusal.
 use borrow.Author.Needs.{needs}
 use Rattle.file.specs.Answers.{numbered}
-use Rattle.wording.proofs.file_place.Statement.{statement}
-use Rattle.wording.proofs.file_place.Tie as tie
+use Rattle.verdictline.proofs.file_place.Statement.{statement}
+use Rattle.verdictline.proofs.file_place.Tie as tie
 
 returns : tie.Need-returns
 unfolding numbered

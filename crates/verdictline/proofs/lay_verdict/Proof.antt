@@ -1,8 +1,8 @@
--- `wording::lay_verdict` meets its contract: one line for each case.
+-- `verdictline::lay_verdict` meets its contract: one line for each case.
 use borrow.Author.Needs.{needs}
-use Rattle.wording.proofs.LineLaws.{accepted-line, refused-line}
-use Rattle.wording.proofs.lay_verdict.Statement.{statement}
-use Rattle.wording.proofs.lay_verdict.Tie as tie
+use Rattle.verdictline.proofs.VerdictLaws.{accepted-line, refused-line}
+use Rattle.verdictline.proofs.lay_verdict.Statement.{statement}
+use Rattle.verdictline.proofs.lay_verdict.Tie as tie
 
 returns : tie.Need-returns
 returns c =

@@ -1,16 +1,12 @@
--- What C is handed of a calendar call's answer: its number, and its values in order, 0 where there is none.
+-- What C is handed of a calendar call's answer on dates and weekdays: its number, and its values in order, 0 where there is none.
 use Prim.Native.Nat.{ℕ}
 use mathlib.Core.Path.{_≡_}
-use mathlib.Core.List.{List}
 use Rattle.laws.specs.Numbered.{Numbered}
-use Rattle.calendar.specs.Answers.{dayAnswer, dateAnswer, weekdayAnswer, weekAnswer, holidayAnswer, fitsAnswer}
+use Rattle.calendar.specs.Answers.{dayAnswer, dateAnswer, weekdayAnswer}
 use Rattle.fileresults.specs.Results.{value}
 use Rattle.dayresults.specs.declared.DayResult.{DayResult}
 use Rattle.dayresults.specs.declared.DateResult.{DateResult}
 use Rattle.dayresults.specs.declared.WeekdayResult.{WeekdayResult}
-use Rattle.dayresults.specs.declared.WeekResult.{WeekResult}
-use Rattle.dayresults.specs.declared.HolidayResult.{HolidayResult}
-use Rattle.dayresults.specs.declared.FitsResult.{FitsResult}
 
 unfoldable pub dayResult : Numbered → DayResult
 dayResult a = record { number = a .number; day = value a 0 }
@@ -20,15 +16,6 @@ dateResult a = record { number = a .number; day = value a 0; month = value a 1; 
 
 unfoldable pub weekdayResult : Numbered → WeekdayResult
 weekdayResult a = record { number = a .number; weekday = value a 0 }
-
-unfoldable pub weekResult : Numbered → WeekResult
-weekResult a = record { number = a .number; week = value a 0; odd = value a 1 }
-
-unfoldable pub holidayResult : Numbered → HolidayResult
-holidayResult a = record { number = a .number; holiday = value a 0 }
-
-unfoldable pub fitsResult : Numbered → FitsResult
-fitsResult a = record { number = a .number; fits = value a 0 }
 
 -- what each exported call gives: the day number of a date
 abbrev pub DayGives : ℕ → ℕ → ℕ → DayResult → Type 0
@@ -41,15 +28,3 @@ DateGives n r = r ≡ dateResult (dateAnswer n)
 -- its weekday
 abbrev pub WeekdayGives : ℕ → WeekdayResult → Type 0
 WeekdayGives n r = r ≡ weekdayResult (weekdayAnswer n)
-
--- its week
-abbrev pub WeekGives : ℕ → WeekResult → Type 0
-WeekGives n r = r ≡ weekResult (weekAnswer n)
-
--- whether it is a holiday
-abbrev pub HolidayGives : ℕ → List ℕ → HolidayResult → Type 0
-HolidayGives n holidays r = r ≡ holidayResult (holidayAnswer n holidays)
-
--- whether a sign fits it
-abbrev pub FitsGives : ℕ → ℕ → List ℕ → FitsResult → Type 0
-FitsGives sign n holidays r = r ≡ fitsResult (fitsAnswer sign n holidays)

@@ -20,7 +20,8 @@ use Rattle.naming.specs.Names.{NameIs}
 use Rattle.arrange.specs.Hint.{HintIs}
 use Rattle.arrange.specs.declared.Arranged.{Arranged}
 use Rattle.fileresults.specs.Results.{RecordsGives, StretchGives, WriteGives}
-use Rattle.dayresults.specs.Results.{DayGives, DateGives, WeekdayGives, WeekGives, HolidayGives, FitsGives}
+use Rattle.dayresults.specs.Results.{DayGives, DateGives, WeekdayGives}
+use Rattle.signresults.specs.Results.{WeekGives, HolidayGives, FitsGives}
 use Rattle.checkresults.specs.Results.{FieldsGives}
 use Rattle.hintresults.specs.Results.{HintGives}
 use Rattle.gives.specs.Gives.{CheckGives, SaleGives, SalesGives, StopGives}

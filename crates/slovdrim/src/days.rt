@@ -2,11 +2,12 @@
 // are then the answer's values, or 0 with a refusal. Lists are lent for the call alone; nothing is written.
 use dayresults::DateResult;
 use dayresults::DayResult;
-use dayresults::FitsResult;
-use dayresults::HolidayResult;
-use dayresults::WeekResult;
 use dayresults::WeekdayResult;
-ghost use Rattle.dayresults.specs.Results.{DayGives, DateGives, WeekdayGives, WeekGives, HolidayGives, FitsGives};
+use signresults::FitsResult;
+use signresults::HolidayResult;
+use signresults::WeekResult;
+ghost use Rattle.dayresults.specs.Results.{DayGives, DateGives, WeekdayGives};
+ghost use Rattle.signresults.specs.Results.{WeekGives, HolidayGives, FitsGives};
 
 // The day number of a date.
 #[no_mangle]
@@ -37,7 +38,7 @@ pub extern "C" fn slovdrim_weekday(number: u64) -> WeekdayResult
 pub extern "C" fn slovdrim_week(number: u64) -> WeekResult
     ensures { λ r. ⌜ WeekGives number r ⌝ }
 {
-    dayresults::week(number)
+    signresults::week(number)
 }
 
 // 1 where a day is in the list of holidays.
@@ -45,7 +46,7 @@ pub extern "C" fn slovdrim_week(number: u64) -> WeekResult
 pub extern "C" fn slovdrim_holiday(number: u64, holidays: &[u64]) -> HolidayResult
     ensures { λ r. ⌜ HolidayGives number (now (holidays .entry)) r ⌝ }
 {
-    dayresults::holiday(number, holidays)
+    signresults::holiday(number, holidays)
 }
 
 // 1 where a day sign fits a day.
@@ -53,5 +54,5 @@ pub extern "C" fn slovdrim_holiday(number: u64, holidays: &[u64]) -> HolidayResu
 pub extern "C" fn slovdrim_fits(sign: u8, number: u64, holidays: &[u64]) -> FitsResult
     ensures { λ r. ⌜ FitsGives sign number (now (holidays .entry)) r ⌝ }
 {
-    dayresults::fits(sign, number, holidays)
+    signresults::fits(sign, number, holidays)
 }

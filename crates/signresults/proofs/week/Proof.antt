@@ -1,9 +1,9 @@
--- `dayresults::week` hands on what `week_of` answers, case by case.
+-- `signresults::week` hands on what `week_of` answers, case by case.
 use borrow.Author.Needs.{needs}
 use Rattle.calendar.specs.Answers.{numberedWeek}
-use Rattle.dayresults.specs.Results.{weekResult}
-use Rattle.dayresults.proofs.week.Statement.{statement}
-use Rattle.dayresults.proofs.week.Tie as tie
+use Rattle.signresults.specs.Results.{weekResult}
+use Rattle.signresults.proofs.week.Statement.{statement}
+use Rattle.signresults.proofs.week.Tie as tie
 
 returns : tie.Need-returns
 unfolding weekResult numberedWeek

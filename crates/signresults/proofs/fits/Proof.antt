@@ -1,9 +1,9 @@
--- `dayresults::fits` hands on what `fits` answers, case by case.
+-- `signresults::fits` hands on what `fits` answers, case by case.
 use borrow.Author.Needs.{needs}
 use Rattle.calendar.specs.Answers.{numberedWhether}
-use Rattle.dayresults.specs.Results.{fitsResult}
-use Rattle.dayresults.proofs.fits.Statement.{statement}
-use Rattle.dayresults.proofs.fits.Tie as tie
+use Rattle.signresults.specs.Results.{fitsResult}
+use Rattle.signresults.proofs.fits.Statement.{statement}
+use Rattle.signresults.proofs.fits.Tie as tie
 
 returns : tie.Need-returns
 unfolding fitsResult numberedWhether

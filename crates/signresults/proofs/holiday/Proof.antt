@@ -1,9 +1,9 @@
--- `dayresults::holiday` hands on what `holiday` answers, case by case.
+-- `signresults::holiday` hands on what `holiday` answers, case by case.
 use borrow.Author.Needs.{needs}
 use Rattle.calendar.specs.Answers.{numberedWhether}
-use Rattle.dayresults.specs.Results.{holidayResult}
-use Rattle.dayresults.proofs.holiday.Statement.{statement}
-use Rattle.dayresults.proofs.holiday.Tie as tie
+use Rattle.signresults.specs.Results.{holidayResult}
+use Rattle.signresults.proofs.holiday.Statement.{statement}
+use Rattle.signresults.proofs.holiday.Tie as tie
 
 returns : tie.Need-returns
 unfolding holidayResult numberedWhether

@@ -1,6 +1,5 @@
 // What C is handed of the checks: document 01's refusals 1 to 11, each with its place, and the counts of a batch that is accepted.
 use fault::Fault;
-use fields::Checked;
 use file::Refusal;
 use fileresults::place_of;
 use outcome::Verdict;
@@ -9,7 +8,7 @@ ghost use Rattle.laws.specs.Numbered.{refusedIn};
 ghost use Rattle.file.specs.Answers.{numbered};
 ghost use Rattle.fault.specs.Answers.{numberedFault};
 ghost use Rattle.outcome.specs.Answers.{numberedVerdict};
-ghost use Rattle.checkresults.specs.Results.{fieldsResult, checkResult, FieldsGives};
+ghost use Rattle.checkresults.specs.Results.{fieldsResult, checkResult};
 
 // A number and its place, of one file's check and of any fault.
 #[repr(C)]
@@ -35,8 +34,8 @@ pub struct CheckResult {
     pub trip_stops: u64,
 }
 
-// A refusal whose place is a record, or a field of it.
-fn found_in(number: u64, file: u64, row: u64, column: u64) -> FieldsResult
+// inner: a refusal whose place is a record, or a field of it.
+pub fn found_in(number: u64, file: u64, row: u64, column: u64) -> FieldsResult
     ensures { λ r. ⌜ r ≡ fieldsResult (refusedIn number file row column) ⌝ }
 {
     FieldsResult {
@@ -48,8 +47,8 @@ fn found_in(number: u64, file: u64, row: u64, column: u64) -> FieldsResult
     }
 }
 
-// A file's own refusal.
-fn in_file(why: Refusal) -> FieldsResult
+// inner: a file's own refusal.
+pub fn in_file(why: Refusal) -> FieldsResult
     ensures { λ r. ⌜ r ≡ fieldsResult (numbered why) ⌝ }
 {
     let p = place_of(why);
@@ -59,18 +58,6 @@ fn in_file(why: Refusal) -> FieldsResult
         record: 0,
         field: 0,
         offset: p.offset,
-    }
-}
-
-// inner: the first fault inside one file, read by itself.
-pub fn fields(file: u64, bytes: &[u8]) -> FieldsResult
-    ensures { λ r. ⌜ FieldsGives file (now (bytes .entry)) r ⌝ }
-{
-    match fields::check_fields(file, bytes) {
-        Checked::Sound => found_in(0, 0, 0, 0),
-        Checked::Refused(why) => in_file(why),
-        Checked::Unkind(at, row, column) => found_in(5, at, row, column),
-        Checked::Broken(at, row) => found_in(6, at, row, 0),
     }
 }
 

@@ -22,7 +22,7 @@ use Rattle.arrange.specs.declared.Arranged.{Arranged}
 use Rattle.fileresults.specs.Results.{RecordsGives, StretchGives, WriteGives}
 use Rattle.dayresults.specs.Results.{DayGives, DateGives, WeekdayGives}
 use Rattle.signresults.specs.Results.{WeekGives, HolidayGives, FitsGives}
-use Rattle.checkresults.specs.Results.{FieldsGives}
+use Rattle.fieldsresults.specs.Results.{FieldsGives}
 use Rattle.hintresults.specs.Results.{HintGives}
 use Rattle.gives.specs.Gives.{CheckGives, SaleGives, SalesGives, StopGives}
 use Rattle.gives.specs.TripGives.{RunsGives, TripStopGives}

@@ -1,11 +1,11 @@
 // The checks for C, file by file: document 01's refusals 5 and 6. Bytes are lent for the call alone; nothing is written.
 use checkresults::FieldsResult;
-ghost use Rattle.checkresults.specs.Results.{FieldsGives};
+ghost use Rattle.fieldsresults.specs.Results.{FieldsGives};
 
 // The first fault inside one file, read by itself.
 #[no_mangle]
 pub extern "C" fn slovdrim_fields(file: u64, bytes: &[u8]) -> FieldsResult
     ensures { λ r. ⌜ FieldsGives file (now (bytes .entry)) r ⌝ }
 {
-    checkresults::fields(file, bytes)
+    fieldsresults::fields(file, bytes)
 }

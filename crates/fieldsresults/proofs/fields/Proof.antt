@@ -1,8 +1,8 @@
--- `checkresults::fields` hands on what the check answers, case by case.
+-- `fieldsresults::fields` hands on what the check answers, case by case.
 use borrow.Author.Needs.{needs}
 use Rattle.fields.specs.Check.{numberedChecked}
-use Rattle.checkresults.proofs.fields.Statement.{statement}
-use Rattle.checkresults.proofs.fields.Tie as tie
+use Rattle.fieldsresults.proofs.fields.Statement.{statement}
+use Rattle.fieldsresults.proofs.fields.Tie as tie
 
 returns : tie.Need-returns
 unfolding numberedChecked

@@ -10,7 +10,7 @@ use borrow.Author.Tests.{eqb-true, ne-eqb, leb-true, lt-ltb}
 use Rattle.laws.specs.Tests.{pick, both, oneOf, either, never, both-left, both-right}
 use Rattle.file.specs.Format.{Text, Fields}
 use Rattle.dates.specs.Dates.{within}
-use Rattle.signs.specs.Signs.{parityFits}
+use Rattle.periods.specs.Periods.{parityFits}
 use Rattle.field.specs.Kinds.{admits}
 use Rattle.field.specs.Names.{timeCodesFile, mark, codeType, codeFrom, codeTo}
 use Rattle.field.specs.Rules.{asks, meets, timeCodeRule, markRule, datesRule, closes, isTimeMark, isNoteMark}

@@ -8,7 +8,7 @@ ghost use mathlib.Core.List.{List};
 ghost use Prim.Native.Nat.{ℕ, _≤_};
 ghost use lib.Dec.{eqb};
 ghost use Rattle.laws.specs.Tests.{pick, both};
-ghost use Rattle.signs.specs.Signs.{parityFits};
+ghost use Rattle.periods.specs.Periods.{parityFits};
 ghost use Rattle.file.specs.Format.{Fields};
 ghost use Rattle.field.specs.Names.{timeCodesFile, mark};
 ghost use Rattle.field.specs.Rules.{meets};
@@ -42,7 +42,7 @@ pub fn holds_day(s: &[u8], places: &[usize; 14], d: u64) -> bool
     if to.len() == 0 {
         return day_of(from) == d;
     }
-    signs::period_holds(day_of(from), true, day_of(to), d)
+    periods::period_holds(day_of(from), true, day_of(to), d)
 }
 
 // inner: the value of the mark of a time code that has a type
@@ -112,7 +112,7 @@ fn type_allows(t: u64, d: u64, there: u64, held: u64) -> bool
     if there == 0 {
         return true;
     }
-    if !signs::parity_fits(t, d) {
+    if !periods::parity_fits(t, d) {
         return false;
     }
     held != 0

@@ -1,11 +1,11 @@
--- What fits a day (document 01, "Days"): holidays, day signs, odd and even weeks, periods, as functions of plain values.
+-- What fits a day (document 01, "Days"): holidays and day signs, as functions of plain values.
 use Prim.Native.Nat.{ℕ, _+_}
-use mathlib.Core.Bool.{Bool, true, false, not}
+use mathlib.Core.Bool.{Bool, false, not}
 use mathlib.Core.List.{List, [], _∷_}
 use lib.Dec.{eqb, leb}
 use Rattle.laws.specs.Tests.{pick, both, oneOf}
 use Rattle.dates.specs.Dates.{within}
-use Rattle.weeks.specs.Weeks.{weekday, oddWeek}
+use Rattle.weeks.specs.Weeks.{weekday}
 
 -- day d is in the list of holidays; any list is taken
 unfoldable pub isHoliday : List ℕ → ℕ → Bool
@@ -30,14 +30,3 @@ signFits sign d holidays =
     pick (eqb sign 88) (isWorkday d holidays)
     (pick (eqb sign 43) (isRestday d holidays)
     (eqb sign (48 + weekday d)))
-
--- what a record of type t asks of the week of day d: 5 and 7 an odd one, 6 and 8 an even one, any other type nothing
-unfoldable pub parityFits : ℕ → ℕ → Bool
-parityFits t d =
-    pick (oneOf (eqb t 5) (eqb t 7)) (oddWeek d)
-    (pick (oneOf (eqb t 6) (eqb t 8)) (not (oddWeek d))
-    true)
-
--- the period from day `from` to day `to`, both counted, holds day d; with no to-date (`given` false) it is the one day `from`
-unfoldable pub periodHolds : ℕ → Bool → ℕ → ℕ → Bool
-periodHolds from given to d = pick given (within from d to) (eqb from d)

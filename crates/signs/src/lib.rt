@@ -1,8 +1,7 @@
-// What fits a day (document 01, "Days"): holidays, day signs, odd and even weeks, periods. All of it is inner: what each function
-// means is its definition in specs/Signs.antt.
+// What fits a day (document 01, "Days"): holidays and day signs. All of it is inner: what each function means is its definition in
+// specs/Signs.antt.
 ghost use mathlib.Core.Path.{_≡_};
-ghost use Prim.Native.Nat.{_≤_};
-ghost use Rattle.signs.specs.Signs.{isHoliday, isDaySign, isWorkday, isRestday, signFits, parityFits, periodHolds};
+ghost use Rattle.signs.specs.Signs.{isHoliday, isDaySign, isWorkday, isRestday, signFits};
 
 fn wide(x: u8) -> u64
     ensures { λ r. ⌜ r ≡ x ⌝ }
@@ -71,37 +70,4 @@ pub fn sign_fits(sign: u8, number: u64, holidays: &[u64]) -> bool
         return is_restday(number, holidays);
     }
     wide(sign) == 48 + weeks::weekday(number)
-}
-
-// inner: what a record of a type asks of a day's week
-pub fn parity_fits(kind: u64, number: u64) -> bool
-    requires { ⌜ number ≤ 73048 ⌝ }
-    ensures { λ r. ⌜ r ≡ parityFits kind number ⌝ }
-{
-    if kind == 5 {
-        return weeks::odd_week(number);
-    }
-    if kind == 7 {
-        return weeks::odd_week(number);
-    }
-    if kind == 6 {
-        return !weeks::odd_week(number);
-    }
-    if kind == 8 {
-        return !weeks::odd_week(number);
-    }
-    true
-}
-
-// inner: with no to-date, the one day `from`
-pub fn period_holds(from: u64, given: bool, to: u64, number: u64) -> bool
-    ensures { λ r. ⌜ r ≡ periodHolds from given to number ⌝ }
-{
-    if given {
-        if number < from {
-            return false;
-        }
-        return number <= to;
-    }
-    from == number
 }

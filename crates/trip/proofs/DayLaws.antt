@@ -9,7 +9,7 @@ use lib.Dec.{eqb, leb}
 use lib.ListN.{length, getD, List·getD-eq-default}
 use borrow.Author.Tests.{eq-eqb, ne-eqb, eqb-true, eqb-false, leb-true, leb-false, not-true}
 use Rattle.laws.specs.Tests.{pick, both, oneOf, either, never, clash, both-left, both-right}
-use Rattle.signs.specs.Signs.{periodHolds}
+use Rattle.periods.specs.Periods.{periodHolds}
 use Rattle.file.specs.Format.{Text, Fields}
 use Rattle.field.specs.Values.{isEmpty, given, isByte, among, dayOfText}
 use Rattle.field.specs.Names.{timeCodesFile, mark, codeType, codeFrom, codeTo}

@@ -5,7 +5,8 @@ use mathlib.Core.Bool.{Bool, true, false, not}
 use lib.Dec.{eqb, leb}
 use Rattle.laws.specs.Tests.{pick, both, oneOf}
 use Rattle.dates.specs.Dates.{within}
-use Rattle.signs.specs.Signs.{isDaySign, signFits, parityFits, periodHolds}
+use Rattle.signs.specs.Signs.{isDaySign, signFits}
+use Rattle.periods.specs.Periods.{parityFits, periodHolds}
 use Rattle.file.specs.Format.{Text, Fields}
 use Rattle.field.specs.Values.{given, dayOfText}
 use Rattle.field.specs.Names.{mark, codeType, codeFrom, codeTo, validFrom, validTo}

@@ -2,7 +2,7 @@
 use mathlib.Core.Path.{refl, sym, _∙_}
 use borrow.Author.Needs.{needs}
 use borrow.Author.Tests.{eq-eqb, ne-eqb}
-use Rattle.signs.specs.Signs.{parityFits}
+use Rattle.periods.specs.Periods.{parityFits}
 use Rattle.dated.proofs.RuleLaws.{fails, holds}
 use Rattle.trip.specs.Days.{codesAllow, allAllow}
 use Rattle.codes.proofs.LeafLaws.{has-one, has-no-one, holds-one, asks-period}

@@ -3,7 +3,7 @@ use mathlib.Core.Path.{refl}
 use native.Mathlib.Omega.{arith}
 use borrow.Author.Needs.{needs}
 use borrow.Author.Tests.{eq-eqb, ne-eqb}
-use Rattle.signs.specs.Signs.{periodHolds}
+use Rattle.periods.specs.Periods.{periodHolds}
 use Rattle.file.specs.Files.{fieldsOf, fieldCounts}
 use Rattle.field.specs.Kinds.{kindOf, kinds, caskody}
 use Rattle.rules.proofs.KindLaws.{text-at, maybe-date}

@@ -1,9 +1,9 @@
 -- `parity_fits` meets its contract: each branch answers one test of the definition, by `odd_week`.
 use Rattle.laws.specs.Tests.{tests}
-use Rattle.signs.specs.Signs.{parityFits}
+use Rattle.periods.specs.Periods.{parityFits}
 use borrow.Author.Needs.{needs}
-use Rattle.signs.proofs.parity_fits.Statement.{statement}
-use Rattle.signs.proofs.parity_fits.Tie as tie
+use Rattle.periods.proofs.parity_fits.Statement.{statement}
+use Rattle.periods.proofs.parity_fits.Tie as tie
 
 returns : tie.Need-returns
 unfolding parityFits

@@ -1,8 +1,8 @@
 -- `period_holds` meets its contract: each branch answers one test of the definition.
 use Rattle.laws.specs.Tests.{tests}
-use Rattle.signs.specs.Signs.{periodHolds}
-use Rattle.signs.proofs.period_holds.Statement.{statement}
-use Rattle.signs.proofs.period_holds.Tie as tie
+use Rattle.periods.specs.Periods.{periodHolds}
+use Rattle.periods.proofs.period_holds.Statement.{statement}
+use Rattle.periods.proofs.period_holds.Tie as tie
 
 returns : tie.Need-returns
 unfolding periodHolds

@@ -1,6 +1,9 @@
 // The signs of a trip's stop: whether it has one, and which it has of those that a sale asks for.
 use coded::code_sign;
 use field::value_of;
+use marked::Marks;
+use marked::marked;
+use marked::with_dollar;
 use steps::by_two;
 use walk::Found;
 use walk::cut;
@@ -9,8 +12,6 @@ ghost use mathlib.Core.Path.{_≡_};
 ghost use mathlib.Core.List.{[]};
 ghost use Prim.Native.Nat.{ℕ, _+_, _-_, _≤_, _<_};
 ghost use lib.ListN.{length};
-ghost use lib.Dec.{eqb};
-ghost use Rattle.laws.specs.Tests.{oneOf};
 ghost use Rattle.file.specs.Files.{fieldsOf};
 ghost use Rattle.file.specs.Reader.{Classes};
 ghost use Rattle.file.specs.Records.{recordsIn};
@@ -23,18 +24,6 @@ ghost use Rattle.rules.specs.Texts.{texts, Kinded};
 ghost use Rattle.coded.specs.Ready.{Ready};
 ghost use Rattle.trip.specs.View.{signsFrom};
 ghost use Rattle.marks.specs.Marks.{StopSought, lineStopAt, plainSigns, MarksOf};
-
-// Which signs a stop has, of those that a sale asks for.
-pub struct Marks {
-    // `$`
-    pub dollar: bool,
-    // `(`
-    pub opening: bool,
-    // `)`
-    pub closing: bool,
-    // `§`
-    pub section: bool,
-}
 
 // Whether one of the codes in texts `from` to `to` - 1 of a record that was cut has this sign.
 fn has_code(
@@ -138,28 +127,6 @@ pub fn stop_has(
     theirs_has(x, f8, places, f7, f3, order, ways, class)
 }
 
-// One of the two is so.
-fn one_of(a: bool, b: bool) -> bool
-    ensures { λ r. ⌜ r ≡ oneOf a b ⌝ }
-{
-    if a {
-        return true;
-    }
-    b
-}
-
-// The marks when one more sign comes; 0 is none.
-fn marked(m: Marks, sign: u8) -> Marks
-    ensures { λ r. ⌜ (r .dollar ≡ oneOf (m .dollar) (eqb sign 36)) × (r .opening ≡ oneOf (m .opening) (eqb sign 40)) × (r .closing ≡ oneOf (m .closing) (eqb sign 41)) × (r .section ≡ oneOf (m .section) (eqb sign 0xA7)) ⌝ }
-{
-    Marks {
-        dollar: one_of(m.dollar, sign == b'$'),
-        opening: one_of(m.opening, sign == b'('),
-        closing: one_of(m.closing, sign == b')'),
-        section: one_of(m.section, sign == 0xA7),
-    }
-}
-
 // No mark yet.
 fn no_marks() -> Marks
     ensures { λ r. ⌜ MarksOf [] r ⌝ }
@@ -229,18 +196,6 @@ fn their_marks(
     match line_stop_of(f8, places, f7, order, ways) {
         Found::At(at) => line_stop_marks(at, f7, f3, order, ways, class),
         Found::Nothing => no_marks(),
-    }
-}
-
-// A stop's own marks, and a `$` of the line's stop.
-fn with_dollar(own: Marks, theirs: Marks) -> Marks
-    ensures { λ r. ⌜ (r .dollar ≡ oneOf (own .dollar) (theirs .dollar)) × (r .opening ≡ own .opening) × (r .closing ≡ own .closing) × (r .section ≡ own .section) ⌝ }
-{
-    Marks {
-        dollar: one_of(own.dollar, theirs.dollar),
-        opening: own.opening,
-        closing: own.closing,
-        section: own.section,
     }
 }
 

@@ -23,7 +23,8 @@ use Rattle.lines.proofs.IndexLaws.{place-known}
 use Rattle.lookup.specs.Ways.{fromOf, toOf, partOf}
 use Rattle.coded.specs.Ready.{Ready}
 use Rattle.trip.specs.Stage.{tripsFile}
-use Rattle.trips.specs.Plain.{plainFault, plainFrom}
+use Rattle.tripfault.specs.Plain.{plainFault}
+use Rattle.trips.specs.Plain.{plainFrom}
 
 -- a part of the list that isn't empty is an index of Spoje
 pub indexed : (s order ways part : List ℕ) → Ready tripsFile s order ways → part ≡ partOf order (fromOf ways tripsFile) (toOf ways tripsFile)

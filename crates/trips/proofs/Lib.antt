@@ -1,4 +1,4 @@
 pub mod PlainLaws
 pub mod ReadyLaws
-pub mod FaultLaws
+pub mod LeftLaws
 pub mod IndexedLaws

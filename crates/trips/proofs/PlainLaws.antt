@@ -23,7 +23,8 @@ use Rattle.trip.specs.Stage.{tripsFile, faultOfTrip, tripsFrom, tripsFault}
 use Rattle.trip.specs.View.{ofLine, viewOf, runsOn, tripSigns}
 use Rattle.trip.proofs.ViewLaws.{view-codes, view-fault, view-trip-found}
 use Rattle.calling.specs.Calling.{travelled}
-use Rattle.trips.specs.Plain.{plainFault, plainFrom, plainRuns}
+use Rattle.tripfault.specs.Plain.{plainFault}
+use Rattle.trips.specs.Plain.{plainFrom, plainRuns}
 
 -- lists put together in either order
 append-assoc : {A : Type 0} (a b c : List A) → (a ++ b) ++ c ≡ a ++ (b ++ c)

@@ -8,28 +8,19 @@ use Rattle.laws.specs.Tests.{pick, both}
 use Rattle.laws.specs.Numbered.{Numbered, answered, refusedIn}
 use Rattle.file.specs.Format.{Fields}
 use Rattle.field.specs.Names.{timeCodesFile}
-use Rattle.link.specs.Met.{number}
 use Rattle.link.specs.Signs.{signIn}
 use Rattle.trail.specs.Lists.{firstOr}
 use Rattle.trail.specs.Trail.{upward}
-use Rattle.trip.specs.Days.{daysFit, codesAllow, isValid}
+use Rattle.trip.specs.Days.{codesAllow, isValid}
 use Rattle.trip.specs.Stage.{tripsFile}
-use Rattle.trip.specs.Stops.{stopsFit}
 use Rattle.trip.specs.View.{signsFrom, ofLine}
-use Rattle.calling.specs.Calling.{travelled}
+use Rattle.tripfault.specs.Plain.{plainFault}
 
--- what is wrong with the trip of record r, where `codes`, `stops` and `times` are the records of Pevnykod, Zasspoje and Caskody
+-- the first fault of these trips, where the first of them is record k, and `codes`, `stops` and `times` are the records of Pevnykod, Zasspoje and Caskody
 module _ (codes stops times : List Fields) where
-  unfoldable pub plainFault : Fields → ℕ
-  plainFault r =
-      pick (daysFit (signsFrom (λ c. signIn codes c) 3 10 r) (upward timeCodesFile (number 1 r) (number 2 r) times))
-      (pick (stopsFit (travelled (number 1 r) (number 2 r) stops)) 0 11)
-      10
-
-  -- the first fault of these trips, where the first of them is record k
   unfoldable pub plainFrom : ℕ → List Fields → Numbered
   plainFrom k [] = answered []
-  plainFrom k (r ∷ rs) = pick (eqb (plainFault r) 0) (plainFrom (k + 1) rs) (refusedIn (plainFault r) tripsFile k 0)
+  plainFrom k (r ∷ rs) = pick (eqb (plainFault codes stops times r) 0) (plainFrom (k + 1) rs) (refusedIn (plainFault codes stops times r) tripsFile k 0)
 
 -- whether the trip of record r, of this line and number, runs on day d; `lines` are the records of Linky
 unfoldable pub plainRuns : List Fields → List Fields → List Fields → ℕ → ℕ → Fields → List ℕ → ℕ → Bool

@@ -1,12 +1,11 @@
 // The first trip of a batch, in Spoje order, whose days or stops are wrong: refusals 10 and 11.
 use ahead::list_goes_on;
 use ahead::walk_goes_on;
-use calling::stops_fit;
-use field::value_of;
 use lookup::index_of;
-use running::days_fit;
+use tripfault::Tried;
+use tripfault::none_tried;
+use tripfault::trip_fault;
 use walk::cut;
-use walk::part;
 ghost use mathlib.Core.Path.{_≡_};
 ghost use mathlib.Core.Bool.{true};
 ghost use mathlib.Core.List.{[]};
@@ -15,13 +14,11 @@ ghost use Rattle.file.specs.Files.{fieldsOf};
 ghost use Rattle.file.specs.Reader.{Classes};
 ghost use Rattle.file.specs.Records.{recordsIn};
 ghost use Rattle.field.specs.Names.{timeCodesFile, tripStopsFile};
-ghost use Rattle.keys.specs.KeyFiles.{PlaceIn};
 ghost use Rattle.link.specs.Signs.{codesFile};
-ghost use Rattle.rules.specs.Texts.{texts, Kinded};
 ghost use Rattle.coded.specs.Ready.{Ready};
 ghost use Rattle.trip.specs.Stage.{tripsFile};
 ghost use Rattle.trips.specs.Answers.{numberedTimed};
-ghost use Rattle.trips.specs.Plain.{plainFault, plainFrom};
+ghost use Rattle.trips.specs.Plain.{plainFrom};
 
 // What the stage finds.
 pub enum Timed {
@@ -31,88 +28,6 @@ pub enum Timed {
     Days(u64),
     // The record of a trip whose stops are wrong.
     Stops(u64),
-}
-
-// What is wrong with a trip, 10, 11 or 0, and where its last time code and its last stop stand, each with the entry of an index that was looked
-// at last: the next trip's are looked for there first.
-struct Tried {
-    fault: u64,
-    code: usize,
-    code_entry: usize,
-    stop: usize,
-    stop_entry: usize,
-}
-
-// Before the first trip: the walks begin where the files do.
-fn none_tried() -> Tried
-    ensures { λ r. ⌜ (r .code ≡ 0) × (r .stop ≡ 0) ⌝ }
-{
-    Tried {
-        fault: 0,
-        code: 0,
-        code_entry: 0,
-        stop: 0,
-        stop_entry: 0,
-    }
-}
-
-// What is wrong with the trip whose record was cut; `last` is what was found of the one before.
-fn trip_fault(
-    f6: &[u8],
-    places: &[usize; 14],
-    f3: &[u8],
-    f8: &[u8],
-    f10: &[u8],
-    order: &[u32],
-    ways: &[usize],
-    last: Tried,
-    class: &[u8; 256],
-) -> Tried
-    requires { ⌜ Kinded tripsFile (now f6) (now places) × Ready codesFile (now f3) (now order) (now ways) × Ready tripStopsFile (now f8) (now order) (now ways) × Ready timeCodesFile (now f10) (now order) (now ways) × PlaceIn timeCodesFile (now f10) (last .code) × PlaceIn tripStopsFile (now f8) (last .stop) × Classes (now class) ⌝ }
-    ensures { λ r. ⌜ (r .fault ≡ plainFault (recordsIn (fieldsOf codesFile) (now (f3 .entry))) (recordsIn (fieldsOf tripStopsFile) (now (f8 .entry))) (recordsIn (fieldsOf timeCodesFile) (now (f10 .entry))) (texts tripsFile (now (f6 .entry)) (now (places .entry)))) × PlaceIn timeCodesFile (now (f10 .entry)) (r .code) × PlaceIn tripStopsFile (now (f8 .entry)) (r .stop) ⌝ }
-{
-    let line = value_of(part(f6, places, 0));
-    let trip = value_of(part(f6, places, 1));
-    let d = days_fit(
-        f6,
-        places,
-        line,
-        trip,
-        f3,
-        f10,
-        order,
-        ways,
-        last.code,
-        last.code_entry,
-        class,
-    );
-    if !d.fit {
-        return Tried {
-            fault: 10,
-            code: d.last,
-            code_entry: d.entry,
-            stop: last.stop,
-            stop_entry: last.stop_entry,
-        };
-    }
-    let s = stops_fit(
-        f8,
-        order,
-        ways,
-        last.stop,
-        last.stop_entry,
-        line,
-        trip,
-        class,
-    );
-    let fault = if s.fit { 0 } else { 11 };
-    Tried {
-        fault: fault,
-        code: d.last,
-        code_entry: d.entry,
-        stop: s.last,
-        stop_entry: s.entry,
-    }
 }
 
 // The first trip whose days or stops are wrong, gone through in the order of the records of Spoje.

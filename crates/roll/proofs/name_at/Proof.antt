@@ -6,7 +6,7 @@ use Rattle.file.specs.Files.{fieldsOf, fieldCounts}
 use Rattle.file.specs.Format.{Fields}
 use Rattle.walk.proofs.WalkLaws.{cut-first}
 use Rattle.coded.proofs.LeftLaws.{left-here, left-kinded}
-use Rattle.trips.proofs.FaultLaws.{named-line, named-trip}
+use Rattle.tripfault.proofs.FaultLaws.{named-line, named-trip}
 use Rattle.roll.specs.Roll.{Names}
 use Rattle.roll.specs.declared.Name.{Name}
 use Rattle.roll.proofs.name_at.Statement.{statement}

@@ -12,7 +12,7 @@ use Rattle.keys.specs.KeyFiles.{PlaceIn}
 use Rattle.lines.proofs.LineLaws.{place-start}
 use Rattle.coded.proofs.LeftLaws.{left-here, left-kinded}
 use Rattle.trips.specs.Answers.{numberedTimed}
-use Rattle.trips.proofs.FaultLaws.{Left, left-start, left-end, left-stop, left-next, apart, fault-few}
+use Rattle.trips.proofs.LeftLaws.{Left, left-start, left-end, left-stop, left-next, apart, fault-few}
 use Rattle.trips.proofs.first_timed.Statement.{statement}
 use Rattle.trips.proofs.first_timed.Tie as tie
 

@@ -1,13 +1,13 @@
--- `trips::trip_fault` meets its contract: the trip's line and number are read, its days tried, and then its stops.
+-- `tripfault::trip_fault` meets its contract: the trip's line and number are read, its days tried, and then its stops.
 use mathlib.Core.Path.{_≡_, _∙_}
 use native.Mathlib.Omega.{arith}
 use denote.Ref.{now}
 use Rattle.file.specs.Files.{fieldsOf, fieldCounts}
 use Rattle.rules.specs.Texts.{texts}
 use Rattle.trip.specs.Stage.{tripsFile}
-use Rattle.trips.proofs.FaultLaws.{Named, named-line, named-trip, fault-days, fault-stops}
-use Rattle.trips.proofs.trip_fault.Statement.{statement}
-use Rattle.trips.proofs.trip_fault.Tie as tie
+use Rattle.tripfault.proofs.FaultLaws.{Named, named-line, named-trip, fault-days, fault-stops}
+use Rattle.tripfault.proofs.trip_fault.Statement.{statement}
+use Rattle.tripfault.proofs.trip_fault.Tie as tie
 
 part-requires : tie.Need-part-requires
 unfolding fieldsOf fieldCounts

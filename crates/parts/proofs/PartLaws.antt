@@ -23,7 +23,7 @@ use Rattle.keys.specs.KeyFiles.{KeyFile}
 use Rattle.keys.specs.Ranks.{IsKeyed, rankOf}
 use Rattle.thirteen.specs.Batch.{Batch, fileIn}
 use Rattle.ranked.proofs.RankedLaws.{order-size}
-use Rattle.heap.specs.Places.{keyRank, Places}
+use Rattle.placed.specs.Places.{keyRank, Places}
 use Rattle.parts.specs.Keyed.{KeyedFiles}
 use Rattle.parts.specs.Parts.{startsInOrder, partOf, partsFrom}
 

@@ -10,7 +10,7 @@ use Rattle.lines.specs.Order.{isRising}
 use Rattle.keys.specs.Ranks.{rankOf}
 use Rattle.thirteen.specs.Batch.{Batch, fileIn}
 use Rattle.ranked.specs.Ranked.{inOrder}
-use Rattle.heap.specs.Places.{keyRank}
+use Rattle.placed.specs.Places.{keyRank}
 
 -- where the records of a file start, in order of key and place
 unfoldable pub startsInOrder : ℕ → List ℕ → List ℕ

@@ -5,7 +5,7 @@ use Prim.Native.Nat.{ℕ}
 use borrow.Author.Needs.{needs}
 use denote.Ref.{now}
 use Rattle.ranked.specs.Ranked.{inOrder}
-use Rattle.heap.specs.Places.{keyRank, Places}
+use Rattle.placed.specs.Places.{keyRank, Places}
 use Rattle.parts.specs.Parts.{startsInOrder}
 use Rattle.parts.proofs.PartLaws.{starts-places}
 use Rattle.parts.proofs.put_file.Statement.{statement}

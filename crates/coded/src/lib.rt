@@ -1,7 +1,7 @@
 // The signs of a record's codes, looked up in Pevnykod.
 use amiss::sign_at;
+use byway::by_one;
 use field::value_of;
-use steps::by_one;
 use walk::Found;
 use walk::part;
 ghost use mathlib.Core.Path.{_≡_};

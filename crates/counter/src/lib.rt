@@ -1,9 +1,9 @@
 // Questions about a batch's trips. Each takes any bytes and any numbers, and checks the batch first.
 use batch::check_with;
+use byway::by_two;
 use fault::is_none;
 use file::classes;
 use outcome::Running;
-use steps::by_two;
 use tripruns::trip_runs;
 use walk::Found;
 ghost use mathlib.Core.Path.{_≡_};

@@ -1,7 +1,7 @@
 // A trip's stops one by one: how many it has, the nth in travel order, and whether a later one has a time.
+use byway::onward;
 use calling::first_of;
 use entries::Step;
-use steps::onward;
 use steps::step_on;
 use walk::cut;
 ghost use mathlib.Core.Path.{_≡_};

@@ -1,10 +1,10 @@
 // The signs of a trip's stop: whether it has one, and which it has of those that a sale asks for.
+use byway::by_two;
 use coded::code_sign;
 use field::value_of;
 use marked::Marks;
 use marked::marked;
 use marked::with_dollar;
-use steps::by_two;
 use walk::Found;
 use walk::cut;
 use walk::part;

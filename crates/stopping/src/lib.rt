@@ -1,4 +1,5 @@
 // A trip's nth stop in travel order, on a batch that stands: its tariff number, its stop, its times, its signs.
+use byway::by_two;
 use fault::Fault;
 use field::value_of;
 use file::Refusal;
@@ -8,7 +9,6 @@ use halts::timed_behind;
 use marks::stop_has;
 use outcome::Halt;
 use outcome::Stop;
-use steps::by_two;
 use walk::Found;
 use walk::cut;
 use walk::part;

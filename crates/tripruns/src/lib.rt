@@ -1,7 +1,7 @@
 // Whether a trip runs on a day: document 01, "Days", on a batch that stands.
+use byway::by_one;
 use field::day_of;
 use running::allowed_on;
-use steps::by_one;
 use walk::Found;
 use walk::cut;
 use walk::part;

@@ -1,12 +1,12 @@
--- `steps::along` meets its contract: upward the next record, downward the previous one, each by the way that was made out for its file.
+-- `byway::along` meets its contract: upward the next record, downward the previous one, each by the way that was made out for its file.
 use mathlib.Core.Path.{_≡_, refl, ap, _∙_}
 use borrow.Author.Needs.{needs}
 use denote.Ref.{now}
 use Rattle.walk.specs.declared.Found.{Found}
 use Rattle.trail.specs.Trail.{stepOf, placeOf}
 use Rattle.trail.proofs.WalkLaws.{way-asks}
-use Rattle.steps.proofs.along.Statement.{statement}
-use Rattle.steps.proofs.along.Tie as tie
+use Rattle.byway.proofs.along.Statement.{statement}
+use Rattle.byway.proofs.along.Tie as tie
 
 next-of-trip-requires : tie.Need-next-of-trip-requires
 next-of-trip-requires c κs =

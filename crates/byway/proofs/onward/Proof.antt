@@ -1,4 +1,4 @@
--- `steps::onward` meets its contract: the walk goes on behind the third number of the record that was cut.
+-- `byway::onward` meets its contract: the walk goes on behind the third number of the record that was cut.
 use mathlib.Core.Path.{_≡_, sym, ap, _∙_}
 use Prim.Native.Nat.{ℕ, _+_}
 use native.Mathlib.Omega.{arith}
@@ -8,8 +8,8 @@ use Rattle.file.specs.Files.{fieldsOf}
 use Rattle.file.specs.Records.{recordsIn}
 use Rattle.trail.specs.Trail.{stepOf, placeOf}
 use Rattle.trail.proofs.NumberLaws.{third-text, third-there}
-use Rattle.steps.proofs.onward.Statement.{statement}
-use Rattle.steps.proofs.onward.Tie as tie
+use Rattle.byway.proofs.onward.Statement.{statement}
+use Rattle.byway.proofs.onward.Tie as tie
 
 part-requires : tie.Need-part-requires
 part-requires c κs =

@@ -1,4 +1,4 @@
-// What C is handed of the check of one file, read by itself: the number of its first fault, and the place.
+// What C is handed of the check of one file, read by itself: the number of its first fault, and the place, in a struct of `checkresults`.
 use checkresults::FieldsResult;
 use checkresults::found_in;
 use checkresults::in_file;

@@ -1,4 +1,4 @@
-// The names of the thirteen files: document 01, "The check program and the desk host".
+// Each of the thirteen files, read by its name: document 01, "The check program and the desk host".
 use loading::Filled;
 use loading::read_file;
 ghost use mathlib.Core.Path.{_≡_};

@@ -34,7 +34,7 @@ use Rattle.link.proofs.KindOfLinks.{code-kind}
 use Rattle.trail.specs.Lists.{select, firstOr}
 use Rattle.trip.specs.View.{signsFrom}
 use Rattle.trip.proofs.ViewLaws.{first-found, first-same, of-trip-fields}
-use Rattle.marked.specs.declared.Marks.{Marks}
+use Rattle.stopmarks.specs.declared.Marks.{Marks}
 use Rattle.marks.specs.Marks.{StopSought, lineStopAt, plainSigns, MarksOf}
 
 -- THE SIGNS OF CODES. One of three, and one or none.

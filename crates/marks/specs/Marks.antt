@@ -15,7 +15,7 @@ use Rattle.link.specs.Met.{number}
 use Rattle.link.specs.Signs.{signIn, isIn}
 use Rattle.trail.specs.Lists.{select, firstOr}
 use Rattle.trip.specs.View.{signsFrom}
-use Rattle.marked.specs.declared.Marks.{Marks}
+use Rattle.stopmarks.specs.declared.Marks.{Marks}
 
 -- the signs of the stop of Zasspoje record r, where `codes` and `lineStops` are the records of Pevnykod and Zaslinky: those of its own codes, or if it
 -- has none, those of the line's stop; a `$` (36) of the line's stop always counts

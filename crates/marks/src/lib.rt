@@ -2,9 +2,9 @@
 use byway::by_two;
 use coded::code_sign;
 use field::value_of;
-use marked::Marks;
-use marked::marked;
-use marked::with_dollar;
+use stopmarks::Marks;
+use stopmarks::marked;
+use stopmarks::with_dollar;
 use walk::Found;
 use walk::cut;
 use walk::part;

@@ -100,7 +100,7 @@ pub fn first_step(
     }
 }
 
-// inner: the same as `onward` from one of the trip's records, with no search where keys rise or an index names them one after another
+// inner: the same as `byway::onward` from one of the trip's records, with no search where keys rise or an index names them one after another
 pub fn step_on(
     file: u64,
     s: &[u8],

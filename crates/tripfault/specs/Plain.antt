@@ -1,4 +1,5 @@
--- What is wrong with a trip, as the code goes about it: the records of each file are looked through as they are, and no view is made.
+-- What is wrong with a trip, as the code goes about it: the records of each file are looked through as they are, and no view is made. That it is
+-- document 01's is proved in `trips`; nothing here needs to be believed.
 use Prim.Native.Nat.{ℕ}
 use mathlib.Core.List.{List}
 use Rattle.laws.specs.Tests.{pick}

@@ -1,4 +1,4 @@
-// The line of the check program: document 01, "The check program and the desk host". Which words and which numbers it has.
+// The line of the check program: document 01, "The check program and the desk host". That of the verdict, or that there are too many bytes.
 use batch::check;
 use phrase::lay;
 use together::few_enough;

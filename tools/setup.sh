@@ -10,6 +10,7 @@
 #   archive NAME             proves the crate and leaves target/staticlib/libNAME.a, unless the one that is there was made of the same sources
 #   program NAME             proves the program and leaves target/bin/NAME
 # Scripts that run at the same time may call these two: one waits for the other.
+#   compile_model FILE       compiles the model of tests/model, which runs natively, into the file
 #
 # Programs over the archive are for x86-64. On another machine they are compiled by a cross compiler, linked statically, since there is no x86-64
 # C library to load, and run under the kit's emulator.
@@ -129,4 +130,8 @@ archive() {
 
 program() {
     by_itself quietly rt check "$1"
+}
+
+compile_model() {
+    rustc -O --edition 2021 tests/model/main.rs -o "$1"
 }

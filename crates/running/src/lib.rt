@@ -1,4 +1,4 @@
-// A trip's days: document 01, "Days". Its record of Spoje was cut; its time codes are walked through as `timecodes` does, and the signs of its
+// A trip's days: document 01, "Days". Its record of Spoje was cut; its time codes are walked through once, as `timecodes` does, and the signs of its
 // codes are looked at as `daysigns` does.
 use daysigns::has_day_sign;
 use daysigns::signs_allow;
@@ -74,8 +74,7 @@ pub fn allowed_on(
 {
     let mut seen: [u64; 9] = [0; 9];
     let mut held: [u64; 9] = [0; 9];
-    types_of(f10, order, ways, 0, 0, line, trip, class, &mut seen);
-    held_on(f10, order, ways, line, trip, d, class, &mut held);
+    held_on(f10, order, ways, line, trip, d, class, &mut seen, &mut held);
     let allowed = signs_allow(f6, places, f3, order, ways, class, d, holidays);
     codes::codes_allow(&seen, &held, d, allowed)
 }

@@ -222,12 +222,13 @@ pub record Typing (s : List ℕ) (line trip : ℕ) (old seen : List ℕ) (first 
   pub types : seenBehind seen (leftAt s line trip at) ≡ seenBehind old (codesIn s line trip)
   pub marks : marksDiffer first differ (leftAt s line trip at) ≡ marksDiffer 0 false (codesIn s line trip)
 
--- the same of the list of those that hold day d
-pub record Holding (s : List ℕ) (line trip d : ℕ) (old held : List ℕ) (at : ℕ) : Type 0 where
+-- the same of two lists, of all of them and of those that hold day d
+pub record Holding (s : List ℕ) (line trip d : ℕ) (was seen old held : List ℕ) (at : ℕ) : Type 0 where
   pub place : PlaceIn timeCodesFile s at
   pub mine : at < length s → ofTrip timeCodesFile line trip (recordAt timeCodesFile s at) ≡ true
-  pub size : length held ≡ length old
-  pub types : heldBehind d held (leftAt s line trip at) ≡ heldBehind d old (codesIn s line trip)
+  pub sizes : (length seen ≡ length was) × (length held ≡ length old)
+  pub types : seenBehind seen (leftAt s line trip at) ≡ seenBehind was (codesIn s line trip)
+  pub holds : heldBehind d held (leftAt s line trip at) ≡ heldBehind d old (codesIn s line trip)
 
 module _ (s order ways : List ℕ) (ready : Ready timeCodesFile s order ways) (line trip : ℕ) (l : line < none) (t : trip < none) where
   pub typing-start : (seen : List ℕ) (near at : ℕ) → PlaceIn timeCodesFile s near
@@ -243,11 +244,16 @@ module _ (s order ways : List ℕ) (ready : Ready timeCodesFile s order ways) (l
         marks = ap (marksDiffer 0 false) (c .1);
       }
 
-  pub holding-start : (d : ℕ) (held : List ℕ) (at : ℕ) → at ≡ placeOf s (stepOf timeCodesFile true line trip 0 (recordsIn (fieldsOf timeCodesFile) s))
-      → Holding s line trip d held held at
-  holding-start d held at e =
-      let c = left-start s order ways ready line trip l t at e in
-      record { place = c .0; mine = step-mine timeCodesFile s order ways ready three line trip l t true 0 at e; size = refl; types = ap (heldBehind d held) (c .1) }
+  pub holding-start : (d : ℕ) (seen held : List ℕ) (at : ℕ) → at ≡ placeOf s (stepOf timeCodesFile true line trip 0 (recordsIn (fieldsOf timeCodesFile) s))
+      → Holding s line trip d seen seen held held at
+  holding-start d seen held at e =
+      let c = left-start s order ways ready line trip l t at e in record {
+        place = c .0;
+        mine = step-mine timeCodesFile s order ways ready three line trip l t true 0 at e;
+        sizes = (refl, refl);
+        types = ap (seenBehind seen) (c .1);
+        holds = ap (heldBehind d held) (c .1);
+      }
 
   -- one is left, and was cut
   module _ (at : ℕ) (h : at < length s) {was places : List ℕ} {end : ℕ} (cut : Cuts 8 s at was places end) (next : ℕ)
@@ -269,15 +275,17 @@ module _ (s order ways : List ℕ) (ready : Ready timeCodesFile s order ways) (l
           marks = marks-step _ _ _ (w .1) first differ f g b c ∙ v .marks;
         }
 
-    pub holding-next : (d : ℕ) (old held : List ℕ) → Holding s line trip d old held at → (new : List ℕ) → new ≡ heldOn d held (texts timeCodesFile s places)
-        → Holding s line trip d old new next
-    holding-next d old held v new a =
+    pub holding-next : (d : ℕ) (was seen old held : List ℕ) → Holding s line trip d was seen old held at
+        → (k : ℕ) → k ≡ typeOf (texts timeCodesFile s places) → (new : List ℕ) → new ≡ heldOn d held (texts timeCodesFile s places)
+        → Holding s line trip d was (set seen k 1) old new next
+    holding-next d was seen old held v k b new a =
         let r = texts timeCodesFile s places in
         let w = left-turn s order ways ready line trip l t at (v .place) h cut next e in record {
           place = w .0;
           mine = step-mine timeCodesFile s order ways ready three line trip l t true (third timeCodesFile (texts timeCodesFile s places) + 1) next e;
-          size = ap length a ∙ held-size d held r ∙ v .size;
-          types = ap (λ (x : List ℕ). heldBehind d x (leftAt s line trip next)) a ∙ held-step _ r _ (w .1) d held ∙ v .types;
+          sizes = (length-set seen k 1 ∙ v .sizes .0, ap length a ∙ held-size d held r ∙ v .sizes .1);
+          types = seen-step _ _ _ (w .1) seen k b ∙ v .types;
+          holds = ap (λ (x : List ℕ). heldBehind d x (leftAt s line trip next)) a ∙ held-step _ r _ (w .1) d held ∙ v .holds;
         }
 
   -- none is left
@@ -288,7 +296,9 @@ module _ (s order ways : List ℕ) (ready : Ready timeCodesFile s order ways) (l
       let z = left-end s order ways ready line trip l t at h in
       (rw z at (v .types), rw z at (v .marks))
 
-  pub holding-end : (d : ℕ) (old held : List ℕ) (at : ℕ) → Holding s line trip d old held at → length s ≤ at
-      → held ≡ heldBehind d old (codesIn s line trip)
-  unfolding heldBehind
-  holding-end d old held at v h = rw (left-end s order ways ready line trip l t at h) at (v .types)
+  pub holding-end : (d : ℕ) (was seen old held : List ℕ) (at : ℕ) → Holding s line trip d was seen old held at → length s ≤ at
+      → (seen ≡ seenBehind was (codesIn s line trip)) × (held ≡ heldBehind d old (codesIn s line trip))
+  unfolding seenBehind heldBehind
+  holding-end d was seen old held at v h =
+      let z = left-end s order ways ready line trip l t at h in
+      (rw z at (v .types), rw z at (v .holds))

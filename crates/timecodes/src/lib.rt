@@ -106,7 +106,7 @@ fn hold_on(f10: &[u8], places: &[usize; 14], d: u64, held: &mut [u64])
     held[kind as usize] = 1;
 }
 
-// inner: of which types a trip's time code holds day d, each marked in the list
+// inner: the types of a trip's time codes, each marked in one list, and those of which one holds day d, marked in another
 pub fn held_on(
     f10: &[u8],
     order: &[u32],
@@ -115,15 +115,18 @@ pub fn held_on(
     trip: u64,
     d: u64,
     class: &[u8; 256],
+    seen: &mut [u64],
     held: &mut [u64],
 )
-    requires { ⌜ Ready timeCodesFile (now f10) (now order) (now ways) × (line < none) × (trip < none) × Classes (now class) × (9 ≤ length (now held)) ⌝ }
-    ensures { λ _. ⌜ now (held .exit) ≡ heldBehind d (now (held .entry)) (upward timeCodesFile line trip (recordsIn (fieldsOf timeCodesFile) (now (f10 .entry)))) ⌝ }
+    requires { ⌜ Ready timeCodesFile (now f10) (now order) (now ways) × (line < none) × (trip < none) × Classes (now class) × (9 ≤ length (now seen)) × (9 ≤ length (now held)) ⌝ }
+    ensures { λ _. ⌜ (now (seen .exit) ≡ seenBehind (now (seen .entry)) (upward timeCodesFile line trip (recordsIn (fieldsOf timeCodesFile) (now (f10 .entry))))) × (now (held .exit) ≡ heldBehind d (now (held .entry)) (upward timeCodesFile line trip (recordsIn (fieldsOf timeCodesFile) (now (f10 .entry))))) ⌝ }
 {
     let mut places: [usize; 14] = [0; 14];
     let mut step = first_step(10, f10, order, ways, 0, 0, true, line, trip);
     while step.at < f10.len() {
         let next = cut(f10, step.at, 8, class, &mut places);
+        let kind = codes::type_of(f10, &places);
+        seen[kind as usize] = 1;
         hold_on(f10, &places, d, held);
         step = step_on(10, f10, &places, order, ways, step, next, true, line, trip);
     }

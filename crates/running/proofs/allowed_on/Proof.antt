@@ -1,37 +1,27 @@
--- `running::allowed_on` meets its contract: the passes leave which types there are and which hold day d.
-use native.Mathlib.Omega.{arith}
+-- `running::allowed_on` meets its contract: the walk leaves which types there are and which hold day d.
 use borrow.Author.Needs.{needs}
-use Rattle.lines.proofs.LineLaws.{place-start}
 use Rattle.running.proofs.RunningLaws.{left-flags, left-seen, held-flags, left-held}
 use Rattle.running.proofs.allowed_on.Statement.{statement}
 use Rattle.running.proofs.allowed_on.Tie as tie
 
-types-of-requires : tie.Need-types-of-requires
-types-of-requires c κs =
-    let p = c .before .before .before .before .before .before .before .pre in
-    (p .4, place-start _ _ (p .4 .key .legal), p .1, p .2, p .5, omega arith)
-
 codes-allow-requires : tie.Need-codes-allow-requires
 codes-allow-requires c κs =
-    let h = c .before .before .before .before in
-    let q = h .before .before .before in
-    let p = q .before .before .before .before .before .before .before .before .pre in
-    (left-flags _ _ (q .types-of .ensures .0), held-flags _ _ _ (h .held-on .ensures), p .6)
+    let h = c .before .before .before .before .before in
+    let p = h .before .before .before .before .before .before .before .before .before .pre in
+    (left-flags _ _ (h .held-on .ensures .0), held-flags _ _ _ (h .held-on .ensures .1), p .6)
 
 returns : tie.Need-returns
 returns c =
     let g = c .before .before .before in
-    let h = g .before .before in
-    let q = h .before .before .before in
-    c .codes-allow .ensures _ _ _ (left-seen _ _ (q .types-of .ensures .0)) (left-held _ _ _ (h .held-on .ensures)) (g .signs-allow .ensures)
+    let h = g .before .before .before in
+    c .codes-allow .ensures _ _ _ (left-seen _ _ (h .held-on .ensures .0)) (left-held _ _ _ (h .held-on .ensures .1)) (g .signs-allow .ensures)
 
 pub allowed-on-spec : {M : Type 1} → statement M
 allowed-on-spec =
     tie.close
     (tie.spec
-    (λ c. search needs)  -- slice-aggregate-types-of
-    types-of-requires
     (λ c. search needs)  -- slice-aggregate-held-on
+    (λ c. search needs)  -- slice-aggregate-held-on-2
     (λ c κs. search needs)  -- held-on-requires
     (λ c κs. search needs)  -- signs-allow-requires
     (λ c. search needs)  -- slice-aggregate-codes-allow

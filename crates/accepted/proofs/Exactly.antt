@@ -29,7 +29,7 @@ use Rattle.fault.specs.OneResult.{fault-no-values}
 use Rattle.filefaults.specs.Faults.{versionFault}
 use Rattle.overfiles.specs.OneFile.{lengthFault, bytesFault}
 use Rattle.overfiles.proofs.FileLaws.{not-long}
-use Rattle.filestages.specs.Order.{firstFault}
+use Rattle.filestages.specs.Order.{firstFault, fileStages}
 use Rattle.filestages.proofs.OrderLaws.{first-each}
 use Rattle.batch.specs.Order.{stages, faultOf}
 use Rattle.outcome.specs.Answers.{numberedVerdict}
@@ -54,7 +54,7 @@ no-pass b k q s t = rule-no-pass q (k .trip-stop-rule q s) t
 
 -- the stages find nothing: the batch keeps every rule
 keeps : (b : Batch) → faultOf b .number ≡ 0 → Keeps b
-unfolding faultOf stages
+unfolding faultOf stages fileStages
 keeps b e =
     let zero-at : (i : ℕ) → i < length (stages b) → getD (stages b) i (answered []) .number ≡ 0 = first-each (stages b) e in
     let fields : (file : ℕ) → 2 ≤ file → file ≤ 13 → fieldFault file (recordsOf b file) .number ≡ 0 =
@@ -82,7 +82,7 @@ keeps b e =
 
 -- a batch that keeps every rule: the stages find nothing
 no-fault : (b : Batch) → Keeps b → faultOf b .number ≡ 0
-unfolding faultOf stages firstFault
+unfolding faultOf stages fileStages firstFault
 no-fault b k =
     let rules : Rules b = record {
       stop-rule = k .stop-rule;

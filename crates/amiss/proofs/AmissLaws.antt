@@ -14,7 +14,7 @@ use Rattle.walk.specs.declared.Found.the-variants.{At, Nothing}
 use Rattle.keys.specs.Keys.{numbers, has, firstWith}
 use Rattle.keys.proofs.KeyLaws.{has-found, has-none}
 use Rattle.link.specs.Links.{linkOf, target, linkFields, reaches, met}
-use Rattle.link.specs.Signs.{signOf, isPermitted, sameSign, codeFits, signFits}
+use Rattle.link.specs.Signs.{signOf, isPermitted, sameSign, codeFits, signStands}
 use Rattle.link.specs.Stage.{amiss}
 use Rattle.link.specs.declared.Link.{Link}
 use Rattle.thirteen.specs.Batch.{Batch, recordsOf}
@@ -63,31 +63,31 @@ module _ (file f : ℕ) where
 -- each link but a code has a sign that fits, so the link is all
 module _ (b : Batch) (file f : ℕ) (r : Fields) where
   pub free-amiss : Link.Free ≡ linkOf file f → 0 ≡ amiss b file r f
-  unfolding amiss met signFits
+  unfolding amiss met signStands
   free-amiss e = rw (← e)
 
   pub line-amiss : Link.Line ≡ linkOf file f → unmet (has 5 (numbers (f ∷ []) r) (recordsOf b 5)) ≡ amiss b file r f
-  unfolding amiss met signFits reaches target linkFields
+  unfolding amiss met signStands reaches target linkFields
   line-amiss e = rw (← e)
 
   pub stop-amiss : Link.Stop ≡ linkOf file f → unmet (has 2 (numbers (f ∷ []) r) (recordsOf b 2)) ≡ amiss b file r f
-  unfolding amiss met signFits reaches target linkFields
+  unfolding amiss met signStands reaches target linkFields
   stop-amiss e = rw (← e)
 
   pub carrier-amiss : Link.Carrier ≡ linkOf file f → unmet (has 4 (numbers (f ∷ []) r) (recordsOf b 4)) ≡ amiss b file r f
-  unfolding amiss met signFits reaches target linkFields
+  unfolding amiss met signStands reaches target linkFields
   carrier-amiss e = rw (← e)
 
   pub trip-amiss : Link.Trip ≡ linkOf file f → f ≡ 2 → unmet (has 6 (numbers (1 ∷ f ∷ []) r) (recordsOf b 6)) ≡ amiss b file r f
-  unfolding amiss met signFits reaches target linkFields
+  unfolding amiss met signStands reaches target linkFields
   trip-amiss e h = rw (← e, h)
 
   pub line-stop-amiss : Link.LineStop ≡ linkOf file f → f ≡ 3 → unmet (has 7 (numbers (1 ∷ f ∷ []) r) (recordsOf b 7)) ≡ amiss b file r f
-  unfolding amiss met signFits reaches target linkFields
+  unfolding amiss met signStands reaches target linkFields
   line-stop-amiss e h = rw (← e, h)
 
   pub seat-amiss : Link.TripOrZero ≡ linkOf file f → unmet (met b Link.TripOrZero f r) ≡ amiss b file r f
-  unfolding amiss signFits
+  unfolding amiss signStands
   seat-amiss e = rw (← e)
 
   -- Mistenky's trip, by its number: 0 links to nothing
@@ -103,16 +103,16 @@ module _ (b : Batch) (file f : ℕ) (r : Fields) where
   -- a code: empty, not found, found
   module _ (e : Link.Code ≡ linkOf file f) where
     pub code-empty : isEmpty (field f r) ≡ true → 0 ≡ amiss b file r f
-    unfolding amiss met signFits codeFits
+    unfolding amiss met signStands codeFits
     code-empty z = rw (← e, z)
 
     pub code-none : isEmpty (field f r) ≡ false → has 3 (numbers (f ∷ []) r) (recordsOf b 3) ≡ false → 8 ≡ amiss b file r f
-    unfolding amiss met signFits reaches target linkFields
+    unfolding amiss met signStands reaches target linkFields
     code-none z h = rw (← e, z, h)
 
     pub code-found : isEmpty (field f r) ≡ false → has 3 (numbers (f ∷ []) r) (recordsOf b 3) ≡ true
         → unfit (codeFits b file f r) ≡ amiss b file r f
-    unfolding amiss met signFits reaches target linkFields
+    unfolding amiss met signStands reaches target linkFields
     code-found z h = rw (← e, z, h)
 
   -- the sign of a code that is given: refused, or permitted

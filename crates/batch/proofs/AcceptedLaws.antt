@@ -19,6 +19,7 @@ use Rattle.link.proofs.SignedLaws.{signed}
 use Rattle.batch.specs.Order.{stages, faultOf}
 use Rattle.overfiles.proofs.FileLaws.{legal-files}
 use Rattle.batch.proofs.SoundLaws.{sound-files}
+use Rattle.filestages.specs.Order.{fileStages}
 use Rattle.filestages.proofs.OrderLaws.{first-each}
 
 -- no fault of several files is an answer with no values
@@ -49,7 +50,7 @@ no-trips b e = trips-zero b 1 (recordsOf b 6) e
 
 -- where no stage finds anything the batch stands
 pub stands : (b : Batch) → faultOf b .number ≡ 0 → Standing b
-unfolding faultOf stages
+unfolding faultOf stages fileStages
 stands b e =
     let zero-at : (i : ℕ) → i < length (stages b) → getD (stages b) i (answered []) .number ≡ 0 = first-each (stages b) e in
     let nothing : linksFault b ≡ answered [] = no-links b (zero-at 4 (omega arith)) in

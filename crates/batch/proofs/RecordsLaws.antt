@@ -35,7 +35,7 @@ use Rattle.filestages.proofs.OrderLaws.{first-one, first-past}
 
 -- where links are met, the trips' fault is that of the stages behind 6
 trips-left : (b : Batch) → linksFault b ≡ answered [] → (g : Fault) → numberedFault g ≡ tripsFault b → numberedFault g ≡ firstFault (drop 4 (stages b))
-unfolding stages firstFault
+unfolding stages fileStages firstFault
 trips-left b e g i =
     let z : linksFault b .number ≡ 0 = ap (λ (a : Numbered). a .number) e in
     first-one g (tripsFault b) i ∙ rw (eq-eqb (linksFault b .number) 0 z)
@@ -43,7 +43,7 @@ trips-left b e g i =
 module _ (b : Batch) (f : Fault) (e : numberedFault f ≡ linksFault b) (t : Bool) (d : t ≡ eqb (numberedFault f .number) 0) where
   -- 7, 8 or 9 is found
   pub links-stop : not t ≡ true → numberedFault f ≡ firstFault (drop 4 (stages b))
-  unfolding stages firstFault
+  unfolding stages fileStages firstFault
   links-stop h =
       let z : linksFault b .number ≡ 0 → ⊥ = λ x. is-some f t d h (ap (λ (a : Numbered). a .number) e ∙ x) in
       e ∙ rw (ne-eqb (linksFault b .number) 0 z)

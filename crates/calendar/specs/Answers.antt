@@ -4,7 +4,7 @@ use Prim.Native.Nat.{ℕ}
 use mathlib.Core.Path.{_≡_}
 use mathlib.Core.Bool.{Bool}
 use mathlib.Core.List.{List, [], _∷_}
-use Rattle.laws.specs.Tests.{pick}
+use Rattle.laws.specs.Tests.{pick, bit}
 use Rattle.laws.specs.Numbered.{Numbered, answered, refused}
 use Rattle.calendar.specs.declared.Day.{Day}
 use Rattle.calendar.specs.declared.Day.the-variants.{At, NotReal}
@@ -19,10 +19,6 @@ use Rattle.calendar.specs.declared.Whether.the-variants.{Yes, Not, NoDay
 use Rattle.dates.specs.Dates.{isDate, isDay, dayNumber, dayOf, monthOf, yearOf}
 use Rattle.weeks.specs.Weeks.{weekday, weekOf, oddWeek}
 use Rattle.signs.specs.Signs.{isHoliday, signFits}
-
--- 1 for yes, 0 for no
-abbrev pub bit : Bool → ℕ
-bit t = pick t 1 0
 
 unfoldable pub numberedDay : Day → Numbered
 numberedDay (At n) = answered (n ∷ [])

@@ -4,6 +4,7 @@ use mathlib.Core.Bool.{Bool, true, false}
 use mathlib.Core.List.{List, [], _∷_}
 use Prim.Native.Nat.{ℕ}
 use native.Mathlib.Omega.{arith}
+use Rattle.laws.specs.Tests.{bit}
 use Rattle.laws.specs.Numbered.{Numbered}
 use Rattle.laws.specs.Settled.{OneToOne}
 use Rattle.calendar.specs.declared.Day.the-variants.{At, NotReal}
@@ -11,7 +12,7 @@ use Rattle.calendar.specs.declared.Date.the-variants.{On, NoDate}
 use Rattle.calendar.specs.declared.DayOfWeek.the-variants.{Is, NoWeekday}
 use Rattle.calendar.specs.declared.Week.the-variants.{Counted, NoWeek}
 use Rattle.calendar.specs.declared.Whether.the-variants.{Yes, Not, NoDay}
-use Rattle.calendar.specs.Answers.{bit, numberedDay, numberedDate, numberedWeekday, numberedWeek, numberedWhether}
+use Rattle.calendar.specs.Answers.{numberedDay, numberedDate, numberedWeekday, numberedWeek, numberedWhether}
 
 -- an answer is no refusal; equal answers have equal values
 apart : {P : Type 0} (a b : Numbered) → a ≡ b → a .number ≡ 0 → b .number ≡ 12 → P

@@ -7,7 +7,7 @@ use native.Mathlib.Omega.{arith}
 use lib.Dec.{eqb, leb, ltb}
 use lib.ListN.{length, getD}
 use borrow.Author.Tests.{eqb-true, ne-eqb, leb-true, lt-ltb}
-use Rattle.laws.specs.Tests.{pick, both, oneOf, either, never, both-left, both-right}
+use Rattle.laws.specs.Tests.{pick, both, oneOf, either, never, both-left, both-right, bit}
 use Rattle.file.specs.Format.{Text, Fields}
 use Rattle.dates.specs.Dates.{within}
 use Rattle.periods.specs.Periods.{parityFits}
@@ -19,7 +19,7 @@ use Rattle.field.specs.declared.Kind.{Kind}
 use Rattle.field.proofs.ValueLaws.{Digits, digits-are}
 use Rattle.link.specs.Signs.{firstByte}
 use Rattle.trip.specs.Days.{typeOf, hasType, holds, twoWeeks, besideThree, weekAllows}
-use Rattle.codes.specs.Seen.{bit, Seen, Held}
+use Rattle.codes.specs.Seen.{Seen, Held}
 
 -- A PLACE OF 0 AND 1
 -- is 0 where its test fails, and is no 0 where it holds

@@ -6,15 +6,12 @@ use mathlib.Core.List.{List, [], _∷_}
 use mathlib.Core.Bool.{Bool, true, false, not}
 use lib.Dec.{eqb}
 use lib.ListN.{getD, length, set}
-use Rattle.laws.specs.Tests.{pick, both, oneOf}
+use Rattle.laws.specs.Tests.{pick, both, oneOf, bit}
 use Rattle.file.specs.Format.{Fields}
 use Rattle.field.specs.Names.{mark, timeCodesFile}
 use Rattle.field.specs.Rules.{meets}
 use Rattle.field.specs.Values.{value}
 use Rattle.trip.specs.Days.{typeOf, hasType, holdsDay, holds}
-
-abbrev pub bit : Bool → ℕ
-bit t = pick t 1 0
 
 -- a list of nine places or more, each 0 or 1
 pub record Flags (seen : List ℕ) : Type 0 where

@@ -2,9 +2,8 @@
 use Prim.Native.Nat.{ℕ}
 use mathlib.Core.Bool.{Bool}
 use mathlib.Core.List.{List, [], _∷_}
-use Rattle.laws.specs.Tests.{pick}
+use Rattle.laws.specs.Tests.{pick, bit}
 use Rattle.laws.specs.Numbered.{Numbered, answered, refused}
-use Rattle.calendar.specs.Answers.{bit}
 use Rattle.dates.specs.Dates.{isDay}
 use Rattle.keys.specs.Keys.{has}
 use Rattle.thirteen.specs.Batch.{Batch, recordsOf, orElse}

@@ -3,9 +3,8 @@ use Prim.Native.Nat.{ℕ}
 use mathlib.Core.Path.{_≡_}
 use mathlib.Core.Bool.{true}
 use mathlib.Core.List.{List, [], _∷_}
-use Rattle.laws.specs.Tests.{pick}
+use Rattle.laws.specs.Tests.{pick, bit}
 use Rattle.laws.specs.Numbered.{Numbered, answered, refused}
-use Rattle.calendar.specs.Answers.{bit}
 use Rattle.file.specs.Format.{Fields}
 use Rattle.field.specs.Names.{linesFile}
 use Rattle.keys.specs.Keys.{has}

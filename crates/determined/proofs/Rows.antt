@@ -4,7 +4,7 @@ use lib.ListN.{length}
 use Rattle.laws.specs.Settled.{settled, settled-self, settled-both}
 use Rattle.calendar.specs.Answers.{numberedDay, numberedDate, numberedWeekday, numberedWeek, numberedWhether, dayAnswer, dateAnswer, weekdayAnswer, weekAnswer, holidayAnswer, fitsAnswer}
 use Rattle.calendar.specs.OneResult.{day-one, date-one, weekday-one, week-one, whether-one}
-use Rattle.file.specs.Answers.{numberedCounted, numberedStretch, numberedWritten, recordsOf, stretchOf, textOf}
+use Rattle.file.specs.Answers.{numberedCounted, numberedStretch, numberedWritten, countedOf, stretchOf, textOf}
 use Rattle.file.specs.OneResult.{counted-one, stretch-one, written-one}
 use Rattle.file.specs.Writing.{writtenOf, bufferOf}
 use Rattle.fields.specs.Check.{numberedChecked, checkedOf}
@@ -36,7 +36,7 @@ determined = record {
   week-of = λ n. settled numberedWeek week-one (weekAnswer n);
   holiday = λ n holidays. settled numberedWhether whether-one (holidayAnswer n holidays);
   fits = λ sign n holidays. settled numberedWhether whether-one (fitsAnswer sign n holidays);
-  records = λ file s. settled numberedCounted counted-one (recordsOf file s);
+  records = λ file s. settled numberedCounted counted-one (countedOf file s);
   stretch-of = λ file s r f. settled numberedStretch stretch-one (stretchOf file s r f);
   stretch-part = λ file s r f. settled-self (textOf file s r f);
   write = λ file f t d place. settled-both _ _ (settled numberedWritten written-one (writtenOf file f t (length d) place)) (settled-self (bufferOf file f t d place));

@@ -7,7 +7,7 @@ use mathlib.Core.Bool.{true, false}
 use Rattle.laws.specs.Numbered.{answered, refused, refusedAt}
 use Rattle.calendar.specs.Answers.{dayAnswer, weekdayAnswer, weekAnswer}
 use Rattle.file.specs.Format.{Fields}
-use Rattle.file.specs.Answers.{recordsOf, stretchOf, textOf}
+use Rattle.file.specs.Answers.{countedOf, stretchOf, textOf}
 use Rattle.field.specs.Kinds.{kindOf, admits}
 use Rattle.field.specs.Names.{mark, codeType}
 use Rattle.field.specs.declared.Kind.{Kind}
@@ -15,19 +15,19 @@ use Rattle.trip.specs.Days.{daysFit}
 
 pub record Facts : Type 0 where
   -- P1 an empty Udaje: no records
-  pub p1 : recordsOf 9 [] ≡ answered (0 ∷ [])
+  pub p1 : countedOf 9 [] ≡ answered (0 ∷ [])
   -- P2 VerzeJDF `"1.8";` CR LF: one
-  pub p2 : recordsOf 1 (34 ∷ 49 ∷ 46 ∷ 56 ∷ 34 ∷ 59 ∷ 13 ∷ 10 ∷ []) ≡ answered (1 ∷ [])
+  pub p2 : countedOf 1 (34 ∷ 49 ∷ 46 ∷ 56 ∷ 34 ∷ 59 ∷ 13 ∷ 10 ∷ []) ≡ answered (1 ∷ [])
   -- P3 the same without LF: 3 at 7
-  pub p3 : recordsOf 1 (34 ∷ 49 ∷ 46 ∷ 56 ∷ 34 ∷ 59 ∷ 13 ∷ []) ≡ refusedAt 3 1 7
+  pub p3 : countedOf 1 (34 ∷ 49 ∷ 46 ∷ 56 ∷ 34 ∷ 59 ∷ 13 ∷ []) ≡ refusedAt 3 1 7
   -- P4 `"1.8",`: 2 at 5
-  pub p4 : recordsOf 1 (34 ∷ 49 ∷ 46 ∷ 56 ∷ 34 ∷ 44 ∷ []) ≡ refusedAt 2 1 5
+  pub p4 : countedOf 1 (34 ∷ 49 ∷ 46 ∷ 56 ∷ 34 ∷ 44 ∷ []) ≡ refusedAt 2 1 5
   -- P5 `""";` CR LF: one, its text a single quote. That stands at 1, its size is 1
-  pub p5 : (recordsOf 1 (34 ∷ 34 ∷ 34 ∷ 59 ∷ 13 ∷ 10 ∷ []) ≡ answered (1 ∷ []))
+  pub p5 : (countedOf 1 (34 ∷ 34 ∷ 34 ∷ 59 ∷ 13 ∷ 10 ∷ []) ≡ answered (1 ∷ []))
       × (stretchOf 1 (34 ∷ 34 ∷ 34 ∷ 59 ∷ 13 ∷ 10 ∷ []) 1 1 ≡ answered (1 ∷ 1 ∷ []))
       × (textOf 1 (34 ∷ 34 ∷ 34 ∷ 59 ∷ 13 ∷ 10 ∷ []) 1 1 ≡ 34 ∷ [])
   -- P6 Udaje `"000123";`: 2 at 8
-  pub p6 : recordsOf 9 (34 ∷ 48 ∷ 48 ∷ 48 ∷ 49 ∷ 50 ∷ 51 ∷ 34 ∷ 59 ∷ []) ≡ refusedAt 2 9 8
+  pub p6 : countedOf 9 (34 ∷ 48 ∷ 48 ∷ 48 ∷ 49 ∷ 50 ∷ 51 ∷ 34 ∷ 59 ∷ []) ≡ refusedAt 2 9 8
   -- P7 29022000 is a date, 29021900 isn't: as the text of a field, such as Linky's field 9, and as day, month and year
   pub p7 : (kindOf 5 9 ≡ Kind.Date)
       × (admits Kind.Date (50 ∷ 57 ∷ 48 ∷ 50 ∷ 50 ∷ 48 ∷ 48 ∷ 48 ∷ []) ≡ true)

@@ -26,7 +26,7 @@ use Rattle.keys.proofs.TableLaws.{one-of, key-fields}
 use Rattle.link.proofs.MatchLaws.{free-behind, links-few}
 use Rattle.amiss.proofs.AmissLaws.{free-amiss}
 use Rattle.link.specs.Links.{linksIn, links, zaslinky, linkOf, target, linkFields, reaches, met}
-use Rattle.link.specs.Signs.{signFits}
+use Rattle.link.specs.Signs.{signStands}
 use Rattle.link.specs.Stage.{isUsed, amiss, firstAmiss, fieldAmiss, recordFault, faultsFrom, linkFault, linksFault}
 use Rattle.link.proofs.FaultLaws.{file-clean, file-settled, first-wrong}
 use Rattle.link.proofs.TableLaws.{record-length}
@@ -43,7 +43,7 @@ use Rattle.recall.proofs.RecallLaws.{zeros}
 -- what is wrong with a field is 8 or 9
 pub amiss-nine : (b : Batch) (file : ℕ) (r : Fields) (f : ℕ) → (amiss b file r f ≡ 0 → ⊥) → (amiss b file r f ≡ 8 → ⊥) → amiss b file r f ≡ 9
 unfolding amiss
-amiss-nine b file r f = go (met b (linkOf file f) f r) (signFits b file (linkOf file f) f r)
+amiss-nine b file r f = go (met b (linkOf file f) f r) (signStands b file (linkOf file f) f r)
   where
     go : (m s : Bool) → (pick {A = ℕ} m (pick s 0 9) 8 ≡ 0 → ⊥) → (pick {A = ℕ} m (pick s 0 9) 8 ≡ 8 → ⊥) → pick {A = ℕ} m (pick s 0 9) 8 ≡ 9
     go true true p q = absurd (p refl)

@@ -87,8 +87,8 @@ timesRule a d =
     (both (isByte 60 d) (oneOf (isEmpty a) (isByte 60 a)))))))
 
 -- there is a time or `|`
-unfoldable pub passesBy : Text → Text → Bool
-passesBy a d = oneOf (oneOf (isTime a) (isTime d)) (oneOf (isByte 124 a) (isByte 124 d))
+unfoldable pub timeOrBar : Text → Text → Bool
+timeOrBar a d = oneOf (oneOf (isTime a) (isTime d)) (oneOf (isByte 124 a) (isByte 124 d))
 
 -- both hold, or neither does
 abbrev pub alike : Bool → Bool → Bool
@@ -96,7 +96,7 @@ alike a b = pick a b (not b)
 
 -- and kilometres are given exactly when there is a time or `|`
 unfoldable pub tripStopRule : Fields → Bool
-tripStopRule r = both (timesRule (arrival r) (departure r)) (alike (given (kilometres r)) (passesBy (arrival r) (departure r)))
+tripStopRule r = both (timesRule (arrival r) (departure r)) (alike (given (kilometres r)) (timeOrBar (arrival r) (departure r)))
 
 -- a record of this file meets its rules; a file with no rules has records that all do
 unfoldable pub meets : ℕ → Fields → Bool

@@ -9,7 +9,7 @@ use native.Mathlib.Omega.{arith}
 use lib.ListN.{length, take}
 use borrow.Author.Tests.{le-leb}
 use Rattle.laws.specs.Numbered.{Numbered, answered, refusedAt}
-use Rattle.file.specs.Answers.{counted, located, recordsOf, stretchOf, stretchIn, textOf, spanOf}
+use Rattle.file.specs.Answers.{counted, located, countedOf, stretchOf, stretchIn, textOf, spanOf}
 use Rattle.file.specs.Files.{isFile, fieldsOf, longest}
 use Rattle.file.specs.Format.{Fields, written, Permitted, Legal, Begins}
 use Rattle.file.specs.Places.{Gives, GivesFile, placeOf}
@@ -24,10 +24,10 @@ use Rattle.file.proofs.Rewriting.{written-again-by}
 pub record InOneWay (file : ℕ) (s : List ℕ) : Type 0 where
   pub once : (rs qs : List Fields) → Permitted (fieldsOf file) rs → Permitted (fieldsOf file) qs → written rs ≡ written qs → rs ≡ qs
   pub reads : (rs : List Fields) → GivesFile file s rs ↔ (Permitted (fieldsOf file) rs × (written rs ≡ s))
-  pub answers : (k : ℕ) → recordsOf file s ≡ answered (k ∷ []) → Legal (fieldsOf file) s
+  pub answers : (k : ℕ) → countedOf file s ≡ answered (k ∷ []) → Legal (fieldsOf file) s
   pub refuses : (Legal (fieldsOf file) s → ⊥)
       → (p : ℕ)
-      × (((recordsOf file s ≡ refusedAt 2 file p) × (p < length s)) ⊎ ((recordsOf file s ≡ refusedAt 3 file p) × (p ≡ length s)))
+      × (((countedOf file s ≡ refusedAt 2 file p) × (p < length s)) ⊎ ((countedOf file s ≡ refusedAt 3 file p) × (p ≡ length s)))
       × Begins (fieldsOf file) (take p s)
       × ((q : ℕ) → p < q → q ≤ length s → Begins (fieldsOf file) (take q s) → ⊥)
 
@@ -82,7 +82,7 @@ module _ (file : ℕ) (s : List ℕ) (f : isFile file ≡ true) (short : length 
 
 -- what was read, all its k records, and is written again field by field with the writer, from any place in any buffer with room, each
 -- call at the place that the last one answered, gives the same bytes there and leaves the rest of the buffer alone
-pub rewritten : (file : ℕ) (s : List ℕ) (k : ℕ) → recordsOf file s ≡ answered (k ∷ []) → (d : List ℕ) (place : ℕ) → place + length s ≤ length d
+pub rewritten : (file : ℕ) (s : List ℕ) (k : ℕ) → countedOf file s ≡ answered (k ∷ []) → (d : List ℕ) (place : ℕ) → place + length s ≤ length d
     → rewriteRecords file (textOf file s) k 1 (buffer d place) ≡ laid s (buffer d place)
 rewritten file s k e d place room =
     let c = asked-whole file s k (sym e) in

@@ -49,8 +49,8 @@ counted file (Whole k) = answered (k ∷ [])
 counted file (Unfit at) = refusedAt 2 file at
 counted file (CutShort at) = refusedAt 3 file at
 
-abbrev pub recordsOf : ℕ → List ℕ → Numbered
-recordsOf file s = asked (counted file) file s
+abbrev pub countedOf : ℕ → List ℕ → Numbered
+countedOf file s = asked (counted file) file s
 
 -- where field f of record r stands in a file whose records have n fields; both count from 1
 unfoldable pub spanOf : ℕ → List ℕ → ℕ → ℕ → Span
@@ -79,7 +79,7 @@ textOf file s r f = stretchIn s (stretchOf file s r f .values)
 
 -- the promises; that of a part of the file speaks of its bytes
 abbrev pub RecordsIs : ℕ → List ℕ → Counted → Type 0
-RecordsIs file s r = numberedCounted r ≡ recordsOf file s
+RecordsIs file s r = numberedCounted r ≡ countedOf file s
 
 abbrev pub StretchIs : ℕ → List ℕ → ℕ → ℕ → Stretch → Type 0
 StretchIs file s r f x = numberedStretch x ≡ stretchOf file s r f

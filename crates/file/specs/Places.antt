@@ -8,7 +8,7 @@ use Rattle.file.specs.Format.{Text, Fields, writtenField, writtenRecord,
 use Rattle.file.specs.Reading.{Span, reading}
 use Rattle.laws.specs.Numbered.{answered}
 use Rattle.file.specs.Files.{fieldsOf}
-use Rattle.file.specs.Answers.{spanOf, recordsOf, stretchOf, textOf}
+use Rattle.file.specs.Answers.{spanOf, countedOf, stretchOf, textOf}
 use Rattle.file.specs.declared.Outcome.the-variants.{Whole}
 
 -- field f of record r, both from 0
@@ -38,7 +38,7 @@ pub record Gives (n : ℕ) (s : List ℕ) (rs : List Fields) : Type 0 where
 
 -- the same in the words of the public calls, for the file of this number
 pub record GivesFile (file : ℕ) (s : List ℕ) (rs : List Fields) : Type 0 where
-  pub count : recordsOf file s ≡ answered (length rs ∷ [])
+  pub count : countedOf file s ≡ answered (length rs ∷ [])
   pub shape : (r : ℕ) → r < length rs → length (getD rs r []) ≡ fieldsOf file
   pub place : (r f : ℕ) → r < length rs → f < fieldsOf file → stretchOf file s (r + 1) (f + 1) ≡ answered (placeOf rs r f .start ∷ placeOf rs r f .size ∷ [])
   pub text : (r f : ℕ) → r < length rs → f < fieldsOf file → textOf file s (r + 1) (f + 1) ≡ fieldAt rs r f

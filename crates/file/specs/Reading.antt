@@ -18,7 +18,7 @@ pub data Mode : Type 0 where
   stopped : Mode  -- no legal file goes on with the byte at this offset
 
 -- what a reading carries: the fields ended in this record, the records ended, the offset of the next byte, and where the
--- text began (0 outside a text)
+-- text began (0 outside a text; nobody reads it behind `stopped`)
 pub record State : Type 0 where
   pub mode : Mode
   pub field : ℕ

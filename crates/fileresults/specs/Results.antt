@@ -4,7 +4,7 @@ use mathlib.Core.Path.{_≡_}
 use mathlib.Core.List.{List}
 use lib.ListN.{getD, length}
 use Rattle.laws.specs.Numbered.{Numbered}
-use Rattle.file.specs.Answers.{recordsOf, stretchOf}
+use Rattle.file.specs.Answers.{countedOf, stretchOf}
 use Rattle.file.specs.Format.{Text}
 use Rattle.file.specs.Writing.{writtenOf, bufferOf}
 use Rattle.fileresults.specs.declared.Place.{Place}
@@ -41,7 +41,7 @@ writeResult a = record { number = a .number; place = value a 0 }
 
 -- what each exported call gives: the number of a file's records
 abbrev pub RecordsGives : ℕ → List ℕ → RecordsResult → Type 0
-RecordsGives file s r = r ≡ recordsResult (recordsOf file s)
+RecordsGives file s r = r ≡ recordsResult (countedOf file s)
 
 -- where a field of a record stands
 abbrev pub StretchGives : ℕ → List ℕ → ℕ → ℕ → StretchResult → Type 0

@@ -11,7 +11,7 @@ use Rattle.laws.specs.Tests.{both, oneOf, either, never, both-left, both-right}
 use Rattle.file.specs.Format.{Text, Fields}
 use Rattle.field.specs.Values.{isEmpty, given, isByte, among, isTime}
 use Rattle.field.specs.Names.{kilometres, arrival, departure}
-use Rattle.field.specs.Rules.{timesRule, passesBy, alike, tripStopRule}
+use Rattle.field.specs.Rules.{timesRule, timeOrBar, alike, tripStopRule}
 use Rattle.field.proofs.ValueLaws.{byte-other, time-digits}
 use Rattle.link.proofs.HasLaws.{one-cases}
 use Rattle.trip.specs.Stops.{arrives, departs, timed, passesIn, passes}
@@ -74,4 +74,4 @@ pub rule-no-pass : (r : Fields) → tripStopRule r ≡ true → timed r ≡ true
 unfolding tripStopRule timed arrives departs
 rule-no-pass r e t =
     rule-times (arrival r) (departure r) t
-    (both-left (timesRule (arrival r) (departure r)) (alike (given (kilometres r)) (passesBy (arrival r) (departure r))) e)
+    (both-left (timesRule (arrival r) (departure r)) (alike (given (kilometres r)) (timeOrBar (arrival r) (departure r))) e)

@@ -28,7 +28,7 @@ use Rattle.trail.specs.Lists.{select, rising}
 use Rattle.trail.specs.Trail.{upward}
 use Rattle.trail.proofs.TrailLaws.{once-distinct}
 use Rattle.trip.specs.Days.{typeOf, daysFit}
-use Rattle.trip.specs.View.{Signed, signsFrom, tripSigns, viewOf, tripOf, codesOf}
+use Rattle.trip.specs.View.{WithSigns, signsFrom, tripSigns, viewOf, tripOf, codesOf}
 use Rattle.trip.proofs.ViewLaws.{code-fields, view-codes, view-trip}
 use Rattle.kept.specs.Trips.{DaysKept}
 use Rattle.kept.specs.Own.{OfTrip, TimeCode, TripSign}
@@ -167,7 +167,7 @@ module _ (b : Batch) (r : Fields) where
   view-signs (i, h, e) d =
       let rs = recordsOf b 6 in
       let s : rs ≡ take i rs ++ (r ∷ drop (suc i) rs) = split-at rs i [] h ∙ ap (λ (q : Fields). take i rs ++ (q ∷ drop (suc i) rs)) e in
-      ap (λ (p : Signed). p .signs) (view-trip b (once-distinct b 6 d) (take i rs) r (drop (suc i) rs) s)
+      ap (λ (p : WithSigns). p .signs) (view-trip b (once-distinct b 6 d) (take i rs) r (drop (suc i) rs) s)
 
 -- REFUSAL 10. The view's trip fits exactly if the batch's records keep the rules.
 pub days-exactly : (b : Batch) (r : Fields) → Stands b 6 r → Distinct b 6 → Distinct b 3

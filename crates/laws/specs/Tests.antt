@@ -19,6 +19,10 @@ abbrev pub oneOf : Bool → Bool → Bool
 oneOf true b = true
 oneOf false b = b
 
+-- a test as a number: 1 for yes, 0 for no
+abbrev pub bit : Bool → ℕ
+bit t = pick t 1 0
+
 -- `search tests` rewrites a definition's tests by the branches that led to a return
 pub ruleset tests = (eq-eqb, ne-eqb, lt-ltb, le-ltb, le-leb, lt-leb)
 

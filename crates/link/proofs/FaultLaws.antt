@@ -14,13 +14,13 @@ use Rattle.file.specs.Format.{Fields}
 use Rattle.thirteen.proofs.OverLaws.{over-each}
 use Rattle.thirteen.specs.Batch.{Batch, recordsOf, overFiles}
 use Rattle.link.specs.Links.{linkOf, met}
-use Rattle.link.specs.Signs.{signFits}
+use Rattle.link.specs.Signs.{signStands}
 use Rattle.link.specs.declared.Link.{Link}
 use Rattle.link.specs.Stage.{isUsed, amiss, firstAmiss, fieldAmiss, recordFault, faultsFrom, linkFault, linksFault}
 
 -- field f as such a link: it is met, and its sign fits
 abbrev pub Fits : Batch → ℕ → Link → ℕ → Fields → Type 0
-Fits b file link f r = (met b link f r ≡ true) × (signFits b file link f r ≡ true)
+Fits b file link f r = (met b link f r ≡ true) × (signStands b file link f r ≡ true)
 
 -- nothing is wrong with field f
 abbrev pub Fine : Batch → ℕ → ℕ → Fields → Type 0
@@ -38,7 +38,7 @@ module _ (b : Batch) (file : ℕ) (r : Fields) where
   -- what is wrong with a field has number 0 exactly if nothing is
   pub amiss-none : (f : ℕ) → amiss b file r f ≡ 0 → Fine b file f r
   unfolding amiss
-  amiss-none f e = go (met b (linkOf file f) f r) (signFits b file (linkOf file f) f r) e
+  amiss-none f e = go (met b (linkOf file f) f r) (signStands b file (linkOf file f) f r) e
     where
       go : (m s : Bool) → pick {A = ℕ} m (pick s 0 9) 8 ≡ 0 → (m ≡ true) × (s ≡ true)
       go true true h = (refl, refl)

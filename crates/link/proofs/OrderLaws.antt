@@ -12,7 +12,7 @@ use Rattle.laws.specs.Numbered.{Numbered, refusedIn}
 use Rattle.file.specs.Format.{Fields}
 use Rattle.thirteen.specs.Batch.{Batch}
 use Rattle.link.specs.Links.{linkOf, met}
-use Rattle.link.specs.Signs.{signFits}
+use Rattle.link.specs.Signs.{signStands}
 use Rattle.link.specs.Stage.{isUsed, amiss, firstAmiss, fieldAmiss, recordFault}
 use Rattle.link.proofs.FaultLaws.{Fine, amiss-none}
 
@@ -23,7 +23,7 @@ module _ (b : Batch) (file : ℕ) (r : Fields) where
   link-first f e = rw e
 
   -- a link that is met and whose sign doesn't fit is 9
-  pub sign-next : (f : ℕ) → met b (linkOf file f) f r ≡ true → signFits b file (linkOf file f) f r ≡ false → amiss b file r f ≡ 9
+  pub sign-next : (f : ℕ) → met b (linkOf file f) f r ≡ true → signStands b file (linkOf file f) f r ≡ false → amiss b file r f ≡ 9
   unfolding amiss
   sign-next f e d = rw (e, d)
 

@@ -24,7 +24,7 @@ use Rattle.link.specs.Signs.{
   isPermitted,
   sameSign,
   codeFits,
-  signFits,
+  signStands,
 }
 use Rattle.link.specs.Met.{Distinct, Reaches, number, Sign, PermittedIn, OneSign}
 use Rattle.link.specs.declared.Link.{Link}
@@ -116,7 +116,7 @@ SignedCode b file f r = (length (field f r) ≡ 0) ⊎ ((x : ℕ) × Sign b (num
 module _ (b : Batch) (file f : ℕ) (r : Fields) where
   -- so it is where the code fits
   pub fits-signed : Fits b file Link.Code f r → SignedCode b file f r
-  unfolding signFits codeFits isPermitted
+  unfolding signStands codeFits isPermitted
   fits-signed e =
       go (met-meets b Link.Code f r (e .0))
       (one-cases (isEmpty (field f r)) (both (isPermitted file (signOf b (number f r))) (sameSign b file f r)) (e .1))
@@ -134,7 +134,7 @@ module _ (b : Batch) (file f : ℕ) (r : Fields) where
   -- and a code fits where it is so; in Zasspoje its sign is to be that of the first code too
   pub signed-fits : Distinct b 3 → Meets b Link.Code f r → SignedCode b file f r → (length (field f r) ≡ 0) ⊎ (sameSign b file f r ≡ true)
       → Fits b file Link.Code f r
-  unfolding signFits codeFits isPermitted
+  unfolding signStands codeFits isPermitted
   signed-fits d m s t = (meets-met b Link.Code f r m, go s t)
     where
       go : SignedCode b file f r → (length (field f r) ≡ 0) ⊎ (sameSign b file f r ≡ true)
@@ -149,7 +149,7 @@ module _ (b : Batch) (file f : ℕ) (r : Fields) where
 module _ (b : Batch) (r : Fields) where
   -- Zasspoje's two codes have one sign where the second fits
   pub fits-one : Fits b 8 Link.Code 6 r → Fits b 8 Link.Code 7 r → OneSign b 6 7 r
-  unfolding signFits codeFits sameSign
+  unfolding signStands codeFits sameSign
   fits-one d e =
       go (met-meets b Link.Code 6 r (d .0)) (met-meets b Link.Code 7 r (e .0))
       (one-cases (isEmpty (field 7 r)) (both (isPermitted 8 (signOf b (number 7 r))) (sameSign b 8 7 r)) (e .1))

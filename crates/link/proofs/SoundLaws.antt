@@ -32,7 +32,7 @@ use Rattle.link.specs.Links.{
   linkOf,
   met,
 }
-use Rattle.link.specs.Signs.{sameSign, signFits}
+use Rattle.link.specs.Signs.{sameSign, signStands}
 use Rattle.link.specs.Stage.{isUsed, linksFault}
 use Rattle.link.specs.Met.{Stands, Distinct, Each, ToCodes, PermittedCodes, Linking, Signed}
 use Rattle.link.specs.declared.Link.{Link}
@@ -99,7 +99,7 @@ module _ (b : Batch) (file : ℕ) where
 
   -- a field that is free fits
   pub free-fits : (r : Fields) (f : ℕ) → Fits b file Link.Free f r
-  unfolding met signFits
+  unfolding met signStands
   free-fits r f = (refl, refl)
 
   -- a file is clean where no key is used and each link of its row fits
@@ -116,7 +116,7 @@ module _ (b : Batch) (file : ℕ) where
 
 module _ (b : Batch) (file : ℕ) (r : Fields) where
   -- a link that is met fits, where it is no code
-  pub met-fits : (link : Link) (f : ℕ) → signFits b file link f r ≡ true → Meets b link f r → Fits b file link f r
+  pub met-fits : (link : Link) (f : ℕ) → signStands b file link f r ≡ true → Meets b link f r → Fits b file link f r
   met-fits link f s m = (meets-met b link f r m, s)
 
   -- the codes from one field to another, which are the last links of a row
@@ -161,14 +161,14 @@ module _ (b : Batch) (k : Linking b) (s : Signed b) where
 
   -- Linky
   pub lines-clean : CleanFile b 5
-  unfolding links linky signFits
+  unfolding links linky signStands
   lines-clean =
       row-clean b 5 (distinct-unused b 5 (k .lines-key))
       (λ r i. let free = free-fits b 5 r in free 1 then free 2 then met-fits b 5 r Link.Carrier 3 refl (k .lines r i) then tt)
 
   -- Spoje
   pub trips-clean : CleanFile b 6
-  unfolding links spoje signFits sameSign
+  unfolding links spoje signStands sameSign
   trips-clean =
       row-clean b 6 (distinct-unused b 6 (k .trips-key))
       (λ r i.
@@ -179,7 +179,7 @@ module _ (b : Batch) (k : Linking b) (s : Signed b) where
 
   -- Zaslinky
   pub line-stops-clean : CleanFile b 7
-  unfolding links zaslinky signFits sameSign
+  unfolding links zaslinky signStands sameSign
   line-stops-clean =
       row-clean b 7 (distinct-unused b 7 (k .line-stops-key))
       (λ r i.
@@ -200,7 +200,7 @@ module _ (b : Batch) (k : Linking b) (s : Signed b) where
 
   -- Zasspoje
   pub trip-stops-clean : CleanFile b 8
-  unfolding links zasspoje signFits
+  unfolding links zasspoje signStands
   trip-stops-clean =
       row-clean b 8 (distinct-unused b 8 (k .trip-stops-key))
       (λ r i.
@@ -214,19 +214,19 @@ module _ (b : Batch) (k : Linking b) (s : Signed b) where
 
   -- Udaje
   pub notes-clean : CleanFile b 9
-  unfolding links udaje signFits
+  unfolding links udaje signStands
   notes-clean = row-clean b 9 (distinct-unused b 9 (k .notes-key)) (λ r i. met-fits b 9 r Link.Line 1 refl (k .notes r i) then tt)
 
   -- Caskody
   pub time-codes-clean : CleanFile b 10
-  unfolding links caskody signFits
+  unfolding links caskody signStands
   time-codes-clean =
       row-clean b 10 (distinct-unused b 10 (k .time-codes-key))
       (λ r i. free-fits b 10 r 1 then met-fits b 10 r Link.Trip 2 refl (k .time-codes r i) then tt)
 
   -- Altdop, which has no key
   pub alternatives-clean : CleanFile b 11
-  unfolding keyFields keyTable isUsed links altdop signFits sameSign
+  unfolding keyFields keyTable isUsed links altdop signStands sameSign
   alternatives-clean =
       row-clean b 11 (λ i l. refl)
       (λ r i.
@@ -238,12 +238,12 @@ module _ (b : Batch) (k : Linking b) (s : Signed b) where
 
   -- Altlinky, which has no key
   pub other-names-clean : CleanFile b 12
-  unfolding keyFields keyTable isUsed links altlinky signFits
+  unfolding keyFields keyTable isUsed links altlinky signStands
   other-names-clean = row-clean b 12 (λ i l. refl) (λ r i. met-fits b 12 r Link.Line 1 refl (k .other-names r i) then tt)
 
   -- Mistenky, which has no key
   pub seats-clean : CleanFile b 13
-  unfolding keyFields keyTable isUsed links mistenky signFits
+  unfolding keyFields keyTable isUsed links mistenky signStands
   seats-clean =
       row-clean b 13 (λ i l. refl)
       (λ r i.

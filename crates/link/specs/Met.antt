@@ -87,7 +87,7 @@ pub record Linking (b : Batch) : Type 0 where
   pub other-names : Each b 12 (λ r. ToLine b 1 r)
   pub seats : Each b 13 (λ r. ToLine b 1 r × ((number 2 r ≡ 0) ⊎ ToTrip b r))
 
--- x is the sign of code number c: that of a record of Pevnykod that has the number. Where `codes-key` holds there is one such record.
+-- x is the sign of code number c: that of a record of Pevnykod that has the number. Where `codes-key` holds there is one such record at most.
 abbrev pub Sign : Batch → ℕ → ℕ → Type 0
 Sign b c x = (q : Fields) × Stands b codesFile q × (number 1 q ≡ c) × (firstByte (field 2 q) ≡ x)
 

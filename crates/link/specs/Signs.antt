@@ -74,12 +74,12 @@ sameSign b file f r =
 unfoldable pub codeFits : Batch → ℕ → ℕ → Fields → Bool
 codeFits b file f r = oneOf (isEmpty (field f r)) (both (isPermitted file (signOf b (value (field f r)))) (sameSign b file f r))
 
-unfoldable pub signFits : Batch → ℕ → Link → ℕ → Fields → Bool
-signFits b file Link.Free f r = true
-signFits b file Link.Line f r = true
-signFits b file Link.Stop f r = true
-signFits b file Link.Carrier f r = true
-signFits b file Link.Trip f r = true
-signFits b file Link.TripOrZero f r = true
-signFits b file Link.LineStop f r = true
-signFits b file Link.Code f r = codeFits b file f r
+unfoldable pub signStands : Batch → ℕ → Link → ℕ → Fields → Bool
+signStands b file Link.Free f r = true
+signStands b file Link.Line f r = true
+signStands b file Link.Stop f r = true
+signStands b file Link.Carrier f r = true
+signStands b file Link.Trip f r = true
+signStands b file Link.TripOrZero f r = true
+signStands b file Link.LineStop f r = true
+signStands b file Link.Code f r = codeFits b file f r

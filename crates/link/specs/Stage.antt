@@ -10,7 +10,7 @@ use Rattle.file.specs.Format.{Fields}
 use Rattle.keys.specs.Keys.{keyFields, keyOf, has}
 use Rattle.thirteen.specs.Batch.{Batch, recordsOf, overFiles}
 use Rattle.link.specs.Links.{linkOf, met}
-use Rattle.link.specs.Signs.{signFits}
+use Rattle.link.specs.Signs.{signStands}
 use Rattle.link.specs.declared.Linked.{Linked}
 
 -- the key of this record, if its file has one, is used by an earlier record
@@ -19,7 +19,7 @@ isUsed file past r = both (not (eqb (length (keyFields file)) 0)) (has file (key
 
 -- what is wrong with field f of a record: 8 before 9; 0 if nothing is
 unfoldable pub amiss : Batch → ℕ → Fields → ℕ → ℕ
-amiss b file r f = pick (met b (linkOf file f) f r) (pick (signFits b file (linkOf file f) f r) 0 9) 8
+amiss b file r f = pick (met b (linkOf file f) f r) (pick (signStands b file (linkOf file f) f r) 0 9) 8
 
 -- the first of the fields from f on, so many, with which something is wrong; 0 if there is none
 unfoldable pub firstAmiss : Batch → ℕ → Fields → ℕ → ℕ → ℕ

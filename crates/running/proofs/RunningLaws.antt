@@ -5,9 +5,10 @@ use mathlib.Core.List.{List, []}
 use Prim.Native.Nat.{ℕ}
 use native.Mathlib.Omega.{arith}
 use lib.ListN.{getD, replicate}
+use Rattle.laws.specs.Tests.{bit}
 use Rattle.file.specs.Format.{Fields}
 use Rattle.trip.specs.Days.{hasType, threeWithOther, daysFit}
-use Rattle.codes.specs.Seen.{bit, Flags, Seen, Held, seenBehind, heldBehind}
+use Rattle.codes.specs.Seen.{Flags, Seen, Held, seenBehind, heldBehind}
 use Rattle.codes.proofs.SeenLaws.{flags-new, flags-seen, flags-held, seen-all, held-all}
 
 -- what the pass leaves

@@ -3,7 +3,7 @@
 use calendar::Week;
 use calendar::Whether;
 ghost use mathlib.Core.Path.{_≡_};
-ghost use Rattle.calendar.specs.Answers.{bit};
+ghost use Rattle.laws.specs.Tests.{bit};
 ghost use Rattle.signresults.specs.Results.{WeekGives, HolidayGives, FitsGives};
 
 #[repr(C)]

@@ -1,4 +1,4 @@
-// The checks for C, file by file: document 01's refusals 5 and 6. Bytes are lent for the call alone; nothing is written.
+// The check of one file for C: document 01's 20, 1 to 3, 5 and 6. Bytes are lent for the call alone; nothing is written.
 use checkresults::FieldsResult;
 ghost use Rattle.fieldsresults.specs.Results.{FieldsGives};
 

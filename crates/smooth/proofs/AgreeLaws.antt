@@ -9,7 +9,7 @@ use Rattle.file.specs.Format.{Fields}
 use Rattle.file.specs.Records.{recordsIn}
 use Rattle.thirteen.specs.Batch.{Batch, fileIn}
 use Rattle.link.specs.Links.{linkOf, target, reaches, met}
-use Rattle.link.specs.Signs.{signOf, sameSign, codeFits, signFits}
+use Rattle.link.specs.Signs.{signOf, sameSign, codeFits, signStands}
 use Rattle.link.specs.Stage.{amiss, firstAmiss}
 use Rattle.link.specs.declared.Link.{Link}
 use Rattle.passage.specs.Passage.{Passes}
@@ -36,8 +36,8 @@ module _ (g b : Batch) where
   met-same Link.Code f r e = rw (reaches-same Link.Code f r e)
 
   -- and so is its sign permitted
-  signs-same : (file : ℕ) (link : Link) (f : ℕ) (r : Fields) → SameFor link → signFits g file link f r ≡ signFits b file link f r
-  unfolding signFits codeFits sameSign signOf target
+  signs-same : (file : ℕ) (link : Link) (f : ℕ) (r : Fields) → SameFor link → signStands g file link f r ≡ signStands b file link f r
+  unfolding signStands codeFits sameSign signOf target
   signs-same file Link.Free f r e = refl
   signs-same file Link.Line f r e = refl
   signs-same file Link.Stop f r e = refl

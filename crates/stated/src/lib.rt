@@ -5,7 +5,7 @@ use field::is_time;
 ghost use mathlib.Core.Path.{_≡_};
 ghost use Rattle.laws.specs.Tests.{both, oneOf};
 ghost use Rattle.field.specs.Values.{isEmpty, given, isByte, isTime};
-ghost use Rattle.field.specs.Rules.{asks, alike, isCZ, timesRule, passesBy};
+ghost use Rattle.field.specs.Rules.{asks, alike, isCZ, timesRule, timeOrBar};
 
 fn is_cz(t: &[u8]) -> bool
     ensures { λ r. ⌜ r ≡ isCZ (now (t .entry)) ⌝ }
@@ -85,8 +85,8 @@ pub fn times_fit(a: &[u8], d: &[u8]) -> bool
 }
 
 // There is a time or `|`.
-fn passes_by(a: &[u8], d: &[u8]) -> bool
-    ensures { λ r. ⌜ r ≡ passesBy (now (a .entry)) (now (d .entry)) ⌝ }
+fn time_or_bar(a: &[u8], d: &[u8]) -> bool
+    ensures { λ r. ⌜ r ≡ timeOrBar (now (a .entry)) (now (d .entry)) ⌝ }
 {
     if is_time(a) {
         return true;
@@ -102,11 +102,11 @@ fn passes_by(a: &[u8], d: &[u8]) -> bool
 
 // inner: kilometres are given exactly when there is a time or `|`
 pub fn kilometres_fit(km: &[u8], a: &[u8], d: &[u8]) -> bool
-    ensures { λ r. ⌜ r ≡ alike (given (now (km .entry))) (passesBy (now (a .entry)) (now (d .entry))) ⌝ }
+    ensures { λ r. ⌜ r ≡ alike (given (now (km .entry))) (timeOrBar (now (a .entry)) (now (d .entry))) ⌝ }
 {
-    let passes = passes_by(a, d);
+    let timed = time_or_bar(a, d);
     if km.len() == 0 {
-        return !passes;
+        return !timed;
     }
-    passes
+    timed
 }

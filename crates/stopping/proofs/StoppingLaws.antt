@@ -39,7 +39,7 @@ use Rattle.trail.proofs.ListLaws.{All, select-pass, all-rising, each-length}
 use Rattle.trip.specs.Stops.{arrives, departs, timed, arrivalMinute, departureMinute}
 use Rattle.track.specs.declared.Visit.{Visit}
 use Rattle.course.specs.Course.{minuteOr, visitOf}
-use Rattle.trip.specs.View.{Signed, nobody, tripStopSigns, viewOf, stopsOf, stopSigns}
+use Rattle.trip.specs.View.{WithSigns, nobody, tripStopSigns, viewOf, stopsOf, stopSigns}
 use Rattle.trip.proofs.StopLaws.{arrival-own, departure-own}
 use Rattle.trip.proofs.ViewLaws.{stop-fields, view-signed-stops}
 use Rattle.calling.specs.Calling.{travelled, goesUp}
@@ -195,7 +195,7 @@ module _ (b : Batch) (line trip : ℕ) where
   abbrev pub ours : List Fields
   ours = travelled line trip (recordsOf b 8)
 
-  abbrev pub signed : Fields → Signed
+  abbrev pub signed : Fields → WithSigns
   signed r = record { texts = r; signs = tripStopSigns b r }
 
   -- they are as many
@@ -220,7 +220,7 @@ module _ (b : Batch) (line trip : ℕ) where
     pub ith-is : stopAt (viewOf b line) trip i ≡ signed ith
     unfolding travelled
     ith-is =
-        ap (λ (l : List Signed). getD l i nobody) (view-signed-stops b line trip)
+        ap (λ (l : List WithSigns). getD l i nobody) (view-signed-stops b line trip)
         ∙ get-each signed nobody [] (travel (third 8) trip (select (ofTrip 8 line trip) (recordsOf b 8))) i h
 
     ith-line : number 1 ith ≡ line

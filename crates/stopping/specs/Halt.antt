@@ -3,17 +3,16 @@ use Prim.Native.Nat.{ℕ, _+_}
 use mathlib.Core.Bool.{Bool, not}
 use mathlib.Core.List.{List, [], _∷_}
 use lib.ListN.{getD, length, take, drop}
-use Rattle.laws.specs.Tests.{pick, both}
-use Rattle.calendar.specs.Answers.{bit}
+use Rattle.laws.specs.Tests.{pick, both, bit}
 use Rattle.keys.specs.Keys.{third}
 use Rattle.link.specs.Met.{number}
 use Rattle.link.specs.Signs.{isIn}
 use Rattle.trail.specs.Lists.{some}
 use Rattle.trip.specs.Stops.{arrives, departs, timed, arrivalMinute, departureMinute, minuteBehind}
-use Rattle.trip.specs.View.{Signed, View, nobody, stopsOf, stopTexts, stopSigns}
+use Rattle.trip.specs.View.{WithSigns, View, nobody, stopsOf, stopTexts, stopSigns}
 
 -- the stop
-abbrev pub stopAt : View → ℕ → ℕ → Signed
+abbrev pub stopAt : View → ℕ → ℕ → WithSigns
 stopAt v trip n = getD (stopsOf v trip) n nobody
 
 -- the minute that the walk over the trip's times has come to before it

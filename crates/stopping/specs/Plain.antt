@@ -4,9 +4,8 @@ use mathlib.Core.Bool.{Bool, not}
 use mathlib.Core.List.{List, [], _∷_}
 use lib.Dec.{leb}
 use lib.ListN.{getD, length, drop}
-use Rattle.laws.specs.Tests.{pick, both}
+use Rattle.laws.specs.Tests.{pick, both, bit}
 use Rattle.laws.specs.Numbered.{Numbered, answered, refused}
-use Rattle.calendar.specs.Answers.{bit}
 use Rattle.file.specs.Format.{Fields}
 use Rattle.field.specs.Names.{arrival, departure}
 use Rattle.keys.specs.Keys.{has, third}

@@ -10,7 +10,7 @@ use Rattle.keys.specs.Keys.{third}
 use Rattle.link.specs.Signs.{isIn}
 use Rattle.trail.specs.Lists.{some}
 use Rattle.trip.specs.Stops.{arrives, departs, timed}
-use Rattle.trip.specs.View.{Signed, View, numbered, stopsOf, stopSigns, runsOn}
+use Rattle.trip.specs.View.{WithSigns, View, numbered, stopsOf, stopSigns, runsOn}
 use Rattle.stopping.specs.Halt.{stopAt, arrivalOf, departureOf}
 
 -- a trip of this number is among the line's
@@ -18,7 +18,7 @@ unfoldable pub hasTrip : View → ℕ → Bool
 hasTrip v trip = some (numbered trip) (v .trips)
 
 -- a stop has this tariff number
-abbrev pub ofTariff : ℕ → Signed → Bool
+abbrev pub ofTariff : ℕ → WithSigns → Bool
 ofTariff tariff p = eqb (third 8 (p .texts)) tariff
 
 -- a tariff number is among the trip's records
@@ -35,23 +35,23 @@ unfoldable pub placeOf : View → ℕ → ℕ → ℕ
 placeOf v trip tariff = before (ofTariff tariff) (stopsOf v trip)
 
 -- and that stop
-unfoldable pub stopOf : View → ℕ → ℕ → Signed
+unfoldable pub stopOf : View → ℕ → ℕ → WithSigns
 stopOf v trip tariff = stopAt v trip (placeOf v trip tariff)
 
 -- it has this sign
-abbrev pub hasSign : View → ℕ → Signed → Bool
+abbrev pub hasSign : View → ℕ → WithSigns → Bool
 hasSign v x p = isIn x (stopSigns v p)
 
 -- 17: first stop: no departure time, or `(` (40) or `$` (36)
-unfoldable pub noBoarding : View → Signed → Bool
+unfoldable pub noBoarding : View → WithSigns → Bool
 noBoarding v p = oneOf (not (departs (p .texts))) (oneOf (hasSign v 40 p) (hasSign v 36 p))
 
 -- 18: second stop: no time, or `)` (41) or `$`
-unfoldable pub noLeaving : View → Signed → Bool
+unfoldable pub noLeaving : View → WithSigns → Bool
 noLeaving v p = oneOf (not (timed (p .texts))) (oneOf (hasSign v 41 p) (hasSign v 36 p))
 
 -- 19: both stops have `§`
-unfoldable pub oneSection : View → Signed → Signed → Bool
+unfoldable pub oneSection : View → WithSigns → WithSigns → Bool
 oneSection v p q = both (hasSign v 0xA7 p) (hasSign v 0xA7 q)
 
 -- the answer is two minutes of the day: departure at the first stop; arrival at the second, or its departure if no arrival is given

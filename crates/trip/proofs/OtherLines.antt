@@ -14,7 +14,7 @@ use Rattle.thirteen.specs.Batch.{Batch, recordsOf}
 use Rattle.trail.specs.Lists.{select, firstOr, each}
 use Rattle.trip.specs.Stage.{faultOfTrip}
 use Rattle.trip.specs.View.{
-  Signed,
+  WithSigns,
   signsFrom,
   tripSigns,
   lineStopSigns,
@@ -112,7 +112,7 @@ module _ (b c : Batch) (line : ℕ) (h : SharedLine b c line) where
   stops-agree trip = ap (λ (v : View). stopsOf v trip) view-agrees
 
   -- and each stop the same signs
-  pub signs-agree : (p : Signed) → stopSigns (viewOf b line) p ≡ stopSigns (viewOf c line) p
+  pub signs-agree : (p : WithSigns) → stopSigns (viewOf b line) p ≡ stopSigns (viewOf c line) p
   signs-agree p = ap (λ (v : View). stopSigns v p) view-agrees
 
 -- the same is wrong with the trip of a Spoje record

@@ -28,7 +28,7 @@ use Rattle.trip.specs.Days.{daysFit}
 use Rattle.trip.specs.Stops.{stopsFit}
 use Rattle.trip.specs.Stage.{faultOfTrip}
 use Rattle.trip.specs.View.{
-  Signed,
+  WithSigns,
   nobody,
   signsFrom,
   tripSigns,
@@ -91,7 +91,7 @@ unfolding codesOf viewOf upward
 view-codes b line trip = ap (rising (third 10)) (own-codes b line trip)
 
 -- a record with its signs
-abbrev signed : (Fields → List ℕ) → Fields → Signed
+abbrev signed : (Fields → List ℕ) → Fields → WithSigns
 signed signs r = record { texts = r; signs = signs r }
 
 each-self : (signs : Fields → List ℕ) (l : List Fields) → each (λ p. p .texts) (withSigns signs l) ≡ l
@@ -114,7 +114,7 @@ view-signed-stops b line trip =
 pub view-stops : (b : Batch) (line trip : ℕ)
     → stopTexts (viewOf b line) trip ≡ travel (third 8) trip (select (ofTrip 8 line trip) (recordsOf b 8))
 view-stops b line trip =
-    ap (λ (l : List Signed). each (λ p. p .texts) l) (view-signed-stops b line trip)
+    ap (λ (l : List WithSigns). each (λ p. p .texts) l) (view-signed-stops b line trip)
     ∙ each-self (tripStopSigns b) (travel (third 8) trip (select (ofTrip 8 line trip) (recordsOf b 8)))
 
 -- The first that passes a test.
@@ -156,7 +156,7 @@ first-own : (signs : Fields → List ℕ) → signs [] ≡ [] → (line n : ℕ)
 first-own signs e line n l =
     let f = signed signs in
     let d : nobody ≡ f [] = ap (λ (k : List ℕ). record { texts = []; signs = k }) (sym e) in
-    ap (λ (z : Signed). firstOr z (λ p. eqb (number 2 (p .texts)) n) (withSigns signs (select (ofLine line) l))) d
+    ap (λ (z : WithSigns). firstOr z (λ p. eqb (number 2 (p .texts)) n) (withSigns signs (select (ofLine line) l))) d
     ∙ first-each f [] (λ p. eqb (number 2 (p .texts)) n) (select (ofLine line) l)
     ∙ ap f (first-both [] (λ r. eqb (number 2 r) n) (ofLine line) l)
 

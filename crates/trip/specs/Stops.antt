@@ -50,7 +50,7 @@ placesFit begun [] = true
 placesFit begun (r ∷ rs) = both (placeFits begun (some timed rs) r) (placesFit (oneOf begun (timed r)) rs)
 
 -- THE WALK OVER TIMES. It carries the last time, as a minute of the day, and goes from time field to time field, arrival before departure. It sets
--- out from 0, below no time.
+-- out from 0: no time is below it.
 -- the minute that a time field brings the walk to: a field that is no time leaves it where it was
 unfoldable pub minuteAt : ℕ → Text → ℕ
 minuteAt last t = pick (isTime t) (minuteOf t) last

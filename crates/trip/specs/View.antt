@@ -18,11 +18,11 @@ use Rattle.trip.specs.Days.{daysFit, codesAllow, isValid}
 use Rattle.trip.specs.Stops.{stopsFit}
 
 -- a record, and the signs of its codes
-pub record Signed : Type 0 where
+pub record WithSigns : Type 0 where
   pub texts : Fields
   pub signs : List ℕ
 
-abbrev pub nobody : Signed
+abbrev pub nobody : WithSigns
 nobody = record { texts = []; signs = [] }
 
 -- the signs of the codes in so many fields from field f on; an empty code has none
@@ -44,9 +44,9 @@ tripStopSigns b r = signsFrom (signOf b) 6 2 r
 -- the view
 pub record View : Type 0 where
   pub line : Fields
-  pub trips : List Signed
-  pub lineStops : List Signed
-  pub tripStops : List Signed
+  pub trips : List WithSigns
+  pub lineStops : List WithSigns
+  pub tripStops : List WithSigns
   pub timeCodes : List Fields
 
 -- a record of this line, by its field 1
@@ -58,7 +58,7 @@ abbrev pub ownRecords : Batch → ℕ → ℕ → List Fields
 ownRecords b line file = select (ofLine line) (recordsOf b file)
 
 -- and with their signs
-abbrev pub withSigns : (Fields → List ℕ) → List Fields → List Signed
+abbrev pub withSigns : (Fields → List ℕ) → List Fields → List WithSigns
 withSigns signs rs = each (λ r. record { texts = r; signs = signs r }) rs
 
 unfoldable pub viewOf : Batch → ℕ → View
@@ -71,11 +71,11 @@ viewOf b line = record {
 }
 
 -- A record has this trip number, in its field 2.
-abbrev pub numbered : ℕ → Signed → Bool
+abbrev pub numbered : ℕ → WithSigns → Bool
 numbered trip p = eqb (number 2 (p .texts)) trip
 
 -- the trip of this number: its record in Spoje
-unfoldable pub tripOf : View → ℕ → Signed
+unfoldable pub tripOf : View → ℕ → WithSigns
 tripOf v trip = firstOr nobody (numbered trip) (v .trips)
 
 -- its time codes, by their numbers (the third of the key in file 10)
@@ -83,7 +83,7 @@ unfoldable pub codesOf : View → ℕ → List Fields
 codesOf v trip = rising (third 10) (select (λ r. eqb (number 2 r) trip) (v .timeCodes))
 
 -- its stops in travel order, by their tariff numbers (the third of the key in file 8)
-unfoldable pub stopsOf : View → ℕ → List Signed
+unfoldable pub stopsOf : View → ℕ → List WithSigns
 stopsOf v trip = travel (λ p. third 8 (p .texts)) trip (select (numbered trip) (v .tripStops))
 
 -- the same without signs
@@ -99,11 +99,11 @@ unfoldable pub runsOn : View → ℕ → List ℕ → ℕ → Bool
 runsOn v trip holidays d = both (isValid (v .line) d) (codesAllow (tripOf v trip .signs) (codesOf v trip) d holidays)
 
 -- the line's stop of a tariff number
-unfoldable pub lineStopOf : View → ℕ → Signed
+unfoldable pub lineStopOf : View → ℕ → WithSigns
 lineStopOf v tariff = firstOr nobody (λ p. eqb (number 2 (p .texts)) tariff) (v .lineStops)
 
 -- the signs of a trip's stop: those of its Zasspoje codes, or if it has none, those of Zaslinky; a `$` (36) in Zaslinky always counts
-unfoldable pub stopSigns : View → Signed → List ℕ
+unfoldable pub stopSigns : View → WithSigns → List ℕ
 stopSigns v p =
     let theirs = lineStopOf v (third 8 (p .texts)) .signs in
     pick (eqb (length (p .signs)) 0) theirs (p .signs ++ select (λ x. eqb x 36) theirs)

@@ -4,8 +4,8 @@ use mathlib.Core.Bool.{Bool}
 use mathlib.Core.List.{[], _∷_}
 use borrow.Author.Needs.{needs}
 use denote.Ref.{now}
+use Rattle.laws.specs.Tests.{bit}
 use Rattle.laws.specs.Numbered.{answered}
-use Rattle.calendar.specs.Answers.{bit}
 use Rattle.file.specs.Files.{fieldsOf}
 use Rattle.file.specs.Records.{recordsIn}
 use Rattle.keys.specs.Keys.{keyFields, keyTable}

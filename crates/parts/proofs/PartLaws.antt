@@ -87,7 +87,7 @@ module _ (file : ℕ) (s : List ℕ) where
   unfolding partOf
   part-some t = rw t
 
-  order-many : length (startsInOrder file s) ≡ length (recordsIn (fieldsOf file) s)
+  pub order-many : length (startsInOrder file s) ≡ length (recordsIn (fieldsOf file) s)
   unfolding startsInOrder
   order-many = order-size (keyRank file s) (starts (fieldsOf file) (rankOf file) s) ∙ starts-size 0 (recordsIn (fieldsOf file) s)
 

@@ -1,2 +1,3 @@
 pub mod RankedLaws
+pub mod SortedLaws
 pub mod HeapLaws

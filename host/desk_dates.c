@@ -151,7 +151,7 @@ enum status read_holidays(const char *path, struct holidays *holidays)
         return no_memory();
     default:
         error = errno;
-        COMPLAIN("%s can't be read: %s", "%s nelze přečíst: %s", plain(path), why_not(error));
+        COMPLAIN("\"%s\" can't be read: %s", "\"%s\" nelze přečíst: %s", plain(path), why_not(error));
         return WRONG_USE;
     }
     status = days_of(&file, holidays);

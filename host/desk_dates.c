@@ -57,13 +57,14 @@ enum status argument_date(const char *argument, struct date *date)
     return WRONG_USE;
 }
 
-/* The day number that one line of a list names: a real date, or a day number, and any of those is taken, as the library does. */
+/* The day number that one line of a list names: a real date, or a number of the calendar's. A number past it is a slip, as 05072001 is, JDF's own way to write
+   a date: the library takes it, as it takes any list, and the holiday that was meant would be none. */
 static int typed_day(const char *text, size_t length, uint64_t *day)
 {
     struct date date;
     slovdrim_day_answer answer;
     if (typed_number(text, length, day))
-        return 1;
+        return slovdrim_date(*day).number == SLOVDRIM_ANSWER;
     if (!typed_date(text, length, &date))
         return 0;
     answer = slovdrim_day(date.day, date.month, date.year);
@@ -100,8 +101,9 @@ static enum status read_days(const char *text, size_t length, struct holidays *h
         size_t whole = end == NULL ? length - at : (size_t)(end - text) - at, bare = whole;
         const char *line = bare_line(text + at, &bare);
         if (bare > 0 && !typed_day(line, bare, &holidays->days[holidays->count++])) {
-            COMPLAIN("%s, line %zu names no day: dates are written as 10.6.2001 or 2001-06-10, or as a day number",
-                     "%s, řádek %zu neurčuje žádný den: píše se datum jako 10.6.2001 nebo 2001-06-10, nebo číslo dne", plain(holidays->path), number);
+            COMPLAIN("%s, line %zu names no day: dates are written as 10.6.2001 or 2001-06-10, or as a day number up to %d",
+                     "%s, řádek %zu neurčuje žádný den: píše se datum jako 10.6.2001 nebo 2001-06-10, nebo číslo dne, nejvýše %d", plain(holidays->path),
+                     number, SLOVDRIM_LAST_DAY);
             return WRONG_USE;
         }
         at += whole + 1;
@@ -149,7 +151,7 @@ enum status read_holidays(const char *path, struct holidays *holidays)
         return no_memory();
     default:
         error = errno;
-        COMPLAIN("%s can't be read: %s", "%s nelze přečíst: %s", plain(path), why_not(error));
+        COMPLAIN("\"%s\" can't be read: %s", "\"%s\" nelze přečíst: %s", plain(path), why_not(error));
         return WRONG_USE;
     }
     status = days_of(&file, holidays);
@@ -157,7 +159,7 @@ enum status read_holidays(const char *path, struct holidays *holidays)
     return status;
 }
 
-/* A list that knows no holiday of the year that is asked about is perhaps last year's. It is taken, as any list is, but not in silence. */
+/* A list that knows no holiday of the year that is asked about is perhaps last year's. It is taken, but not in silence. */
 void warn_of_year(const struct holidays *holidays, const struct date *date)
 {
     size_t i;

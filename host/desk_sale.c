@@ -57,9 +57,20 @@ static enum status refuse_tariff(const struct question *q)
     return REFUSED;
 }
 
-/* Numbers 15 to 19: all that the question names is there, but no ticket may be sold. */
-static void tell_not_sold(uint64_t number)
+/* 16 where the two stops are one: there is no other direction to offer. */
+static void tell_one_stop(void)
 {
+    tell(stdout, "It is the same stop twice. Compare the two tariff numbers: desk stops shows those of the trip.\n",
+         "Je to dvakrát tatáž zastávka. Porovnejte obě tarifní čísla: která spoj má, ukáže desk stops.\n");
+}
+
+/* Numbers 15 to 19: all that the question names is there, but no ticket may be sold. */
+static void tell_not_sold(const struct question *q, uint64_t number)
+{
+    if (number == SLOVDRIM_NOT_BEFORE && q->from == q->to) {
+        tell_one_stop();
+        return;
+    }
     switch (number) {
     case SLOVDRIM_DOES_NOT_RUN:
         tell(stdout, "The trip doesn't run on this day. Offer another day, or another trip: desk trips shows those of this day.\n",
@@ -92,7 +103,7 @@ static void tell_not_sold(uint64_t number)
 static enum status refuse_sale(const struct batch *batch, const struct question *q, const struct holidays *holidays, uint64_t number)
 {
     printf("REFUSED %" PRIu64 "\n", number);
-    tell_not_sold(number);
+    tell_not_sold(q, number);
     show_trip_and_day(batch, q, holidays);
     show_call(batch, q, q->from);
     putchar('\n');

@@ -8,15 +8,19 @@
 #include <string.h>
 #include <unistd.h>
 
+/* Whether the alarm is this file's own: only then may it be set again, or taken back. */
+static volatile sig_atomic_t waiting;
 static volatile sig_atomic_t shown;
 static const char *first_words;
 
-/* A second is over. The library keeps no state, so it may be interrupted anywhere; a read goes on. */
+/* A second is over. The library keeps no state, so it may be interrupted anywhere; a read goes on. One that is over just as the waiting ends doesn't count. */
 static void each_second(int signal_number)
 {
     int error = errno;
     const char *words = !shown ? first_words : ".";
     (void)signal_number;
+    if (!waiting)
+        return;
     if (write(STDERR_FILENO, words, strlen(words)) >= 0)
         shown = 1;
     alarm(1);
@@ -34,12 +38,17 @@ void begin_waiting(void)
     action.sa_handler = each_second;
     action.sa_flags = SA_RESTART;
     sigaction(SIGALRM, &action, NULL);
+    waiting = 1;
     alarm(1);
 }
 
-/* Ends the line of dots, if there is one. Whatever is written comes after this. */
+/* Ends the line of dots, if there is one. Whatever is written comes after this. Where no waiting was begun, an alarm is of whoever started the program, and is
+   left alone. */
 void end_waiting(void)
 {
+    if (!waiting)
+        return;
+    waiting = 0;
     alarm(0);
     if (shown)
         fputc('\n', stderr);

@@ -1,5 +1,9 @@
 /* holds NUMBER FILE: says what one file of a batch holds: how many records, and each record's fields; or why it is no legal file, and where.
-   NUMBER is the file's number in the batch, 1 to 13 (2 is Zastavky). Exit status: 0 if the file is legal, 1 if it is refused, 2 if it can't be read. */
+   NUMBER is the file's number in the batch, 1 to 13 (2 is Zastavky). Exit status: 0 if the file is legal, 1 if it is refused, 2 if it can't be read or the
+   answer can't be written.
+
+   It is an example of the calls on one file, and asks for each field by itself. slovdrim_stretch reads the whole file for each, so the time grows with the
+   square of the file's length. */
 #include <errno.h>
 #include <inttypes.h>
 #include <stdio.h>
@@ -62,13 +66,41 @@ static uint8_t *bytes_of(const char *path, size_t *length)
     return bytes;
 }
 
+/* What the file of this number holds; the exit status. */
+static int show_file(uint64_t file, const uint8_t *bytes, size_t length)
+{
+    uint64_t record, field;
+    slovdrim_records_answer a = slovdrim_records(file, bytes, length);
+    if (a.number != SLOVDRIM_ANSWER) {
+        refuse(&a, bytes);
+        return 1;
+    }
+    printf("%s: %" PRIu64 " record%s\n", kinds[file].name, a.records, a.records == 1 ? "" : "s");
+    for (record = 1; record <= a.records; record++) {
+        printf("%" PRIu64 ":", record);
+        for (field = 1; field <= kinds[file].fields; field++) {
+            slovdrim_stretch_answer s = slovdrim_stretch(file, bytes, length, record, field);
+            printf(field == 1 ? " " : " | ");
+            if (s.number != SLOVDRIM_ANSWER) {
+                /* the count was of these very bytes, so this is never met; a refusal must not look like an empty text */
+                printf("\n");
+                fprintf(stderr, "holds: record %" PRIu64 ", field %" PRIu64 ": refusal %" PRIu64 "\n", record, field, s.number);
+                return 1;
+            }
+            show_cp1250(stdout, bytes + s.start, s.length);
+        }
+        putchar('\n');
+    }
+    return 0;
+}
+
 int main(int argc, char **argv)
 {
-    uint64_t file, record, field;
+    uint64_t file;
     char *end;
     uint8_t *bytes;
     size_t length = 0;
-    slovdrim_records_answer a;
+    int status;
 
     if (slovdrim_version() != SLOVDRIM_VERSION) {
         fprintf(stderr, "holds: the library is not of this header's version\n");
@@ -89,29 +121,11 @@ int main(int argc, char **argv)
         fprintf(stderr, "holds: %s can't be read\n", argv[2]);
         return 2;
     }
-    a = slovdrim_records(file, bytes, length);
-    if (a.number != SLOVDRIM_ANSWER) {
-        refuse(&a, bytes);
-        free(bytes);
-        return 1;
-    }
-    printf("%s: %" PRIu64 " record%s\n", kinds[file].name, a.records, a.records == 1 ? "" : "s");
-    for (record = 1; record <= a.records; record++) {
-        printf("%" PRIu64 ":", record);
-        for (field = 1; field <= kinds[file].fields; field++) {
-            slovdrim_stretch_answer s = slovdrim_stretch(file, bytes, length, record, field);
-            printf(field == 1 ? " " : " | ");
-            if (s.number != SLOVDRIM_ANSWER) {
-                /* the count was of these very bytes, so this is never met; a refusal must not look like an empty text */
-                printf("\n");
-                fprintf(stderr, "holds: record %" PRIu64 ", field %" PRIu64 ": refusal %" PRIu64 "\n", record, field, s.number);
-                free(bytes);
-                return 1;
-            }
-            show_cp1250(stdout, bytes + s.start, s.length);
-        }
-        putchar('\n');
-    }
+    status = show_file(file, bytes, length);
     free(bytes);
-    return 0;
+    if (fflush(stdout) != 0 || ferror(stdout)) {
+        fprintf(stderr, "holds: the answer can't be written\n");
+        return 2;
+    }
+    return status;
 }

@@ -8,7 +8,8 @@
  *
  * For all calls:
  *
- *  - Results are structs of 64-bit numbers, returned by value. `number` is 0 for an answer and otherwise one of the SLOVDRIM_ numbers below.
+ *  - Results are structs of 64-bit numbers, returned by value; slovdrim_version alone returns a number. `number` is 0 for an answer and otherwise one of the
+ *    SLOVDRIM_ numbers below.
  *    A member that the number doesn't speak of is 0: after a refusal only the place that its comment names is set, after an answer only what was
  *    asked for.
  *  - Records and fields count from 1. Offsets and places count bytes from 0. Day 0 is 1 January 1900.
@@ -21,8 +22,11 @@
  *    `buffer` must not overlap `text`, and `list` must not overlap anything else that is lent. Two inputs of a call may overlap.
  *  - The library has no state at all: no globals, no set-up, no locks, no errno. Calls may be made from any number of threads at once, and from
  *    a signal handler.
+ *  - A call on a batch takes up to 72 kB of the stack, whatever the size of the batch, since the check keeps tables there. SLOVDRIM_STACK is what a
+ *    caller should have left, with room to spare: the 8 MB that a thread usually has are plenty, the usual alternate stack of a signal handler
+ *    (SIGSTKSZ) is too small. This was measured on the archive, by tests/stack.c, and isn't proved.
  *
- * Link with libslovdrim.a. The archive is for x86-64 Linux only (System V calling convention).
+ * This header needs C11 or C++11, for its static assertions. Link with libslovdrim.a. The archive is for x86-64 Linux only (System V calling convention).
  */
 #ifndef SLOVDRIM_H
 #define SLOVDRIM_H
@@ -59,6 +63,11 @@ extern "C" {
  * The longest file that is read, in bytes.
  */
 #define SLOVDRIM_LONGEST 16777215
+
+/*
+ * The stack that a caller should have left for a call, in bytes.
+ */
+#define SLOVDRIM_STACK 131072
 
 /*
  * The numbers that a call can come back with. Numbers not listed are not used by this version.
@@ -366,6 +375,8 @@ typedef struct {
  * even), and for 7 and 8 one such period holds d. A period with no to-date is one day.
  *
  * After the batch's own refusals: SLOVDRIM_NO_SUCH_DAY for a day number past SLOVDRIM_LAST_DAY; then SLOVDRIM_NO_SUCH_TRIP. Neither has a place.
+ *
+ * There is no form of this call with `order`: on a batch whose keys don't rise it takes as long as slovdrim_check does there.
  */
 slovdrim_runs_answer slovdrim_runs(const uint8_t *verzejdf, size_t verzejdf_length, const uint8_t *zastavky, size_t zastavky_length,
                                    const uint8_t *pevnykod, size_t pevnykod_length, const uint8_t *dopravci, size_t dopravci_length,
@@ -402,6 +413,8 @@ typedef struct {
  * of the line's stop in Zaslinky; a $ in Zaslinky always counts.
  *
  * After the batch's own refusals: SLOVDRIM_NO_SUCH_TRIP; then SLOVDRIM_NO_SUCH if the trip has no such stop. Neither has a place.
+ *
+ * There is no form of this call with `order`: on a batch whose keys don't rise it takes as long as slovdrim_check does there.
  */
 #define SLOVDRIM_NO_BOARDING 1 /* ( */
 #define SLOVDRIM_NO_ALIGHTING 2 /* ) */

@@ -43,9 +43,12 @@ class Slow:
 
     def feed(self, seconds):
         def feeding():
-            with open(self.path, "wb") as file:
-                time.sleep(seconds)
-                file.write(self.bytes)
+            try:
+                with open(self.path, "wb") as file:
+                    time.sleep(seconds)
+                    file.write(self.bytes)
+            except BrokenPipeError:
+                pass  # the reader is gone
         threading.Thread(target=feeding, daemon=True).start()
 
 
@@ -121,6 +124,17 @@ def no_dots_when_quick(desk):
     compare("a quick check", r"ACCEPTED stops 9 lines 2 trips 4 trip stops 30\r\n", written)
 
 
+# An alarm that was set before the host began is not the host's: without a terminal it goes off, though a line of dots would have been ended by then.
+def alarm_of_others(desk):
+    slow = Slow("alarmed", "ring", "Udaje")
+    os.remove("alarmed/Zastavky.txt")
+    slow.feed(10)
+    run = subprocess.run(desk + ["check", "alarmed"], stdin=subprocess.DEVNULL, capture_output=True, timeout=PATIENCE, preexec_fn=lambda: signal.alarm(3),
+                         env={**os.environ, "LANG": ENGLISH})
+    compare("an alarm of others, standard error", r"desk: alarmed/Zastavky\.txt is missing and counts as empty\n", run.stderr.decode())
+    compare("an alarm of others, status", str(-signal.SIGALRM), str(run.returncode))
+
+
 def waiting_bytes(end):
     return struct.unpack("i", fcntl.ioctl(end, termios.FIONREAD, b"\0" * 4))[0]
 
@@ -175,5 +189,6 @@ else:
     answers_after_dots(sys.argv[1:])
     dots_go_on(sys.argv[1:])
     no_dots_when_quick(sys.argv[1:])
+    alarm_of_others(sys.argv[1:])
     in_own_session(sys.argv[1:])
 print(runs, differences)

@@ -1,4 +1,5 @@
-# What .ci/run, tests/run, tests/desk, tests/install, samples/run, bench/run, check and show have in common; they read it with `.` from the root of the repository.
+# What .ci/run, tests/run, tests/desk, tests/install, tests/fuzz/run, samples/run, bench/run, bench/whole, bench/native, check and show have in common; they read
+# it with `.` from the root of the repository.
 #
 #   need COMMAND PACKAGE..   installs Debian packages, if the command is missing
 #   need_header FILE PACKAGE..  the same, if gcc doesn't find the header
@@ -24,7 +25,8 @@ bring() {
     [ "$(id -u)" = 0 ] || as_root=(sudo)
     # The lists of packages may be missing or old on a fresh machine.
     "${as_root[@]}" apt-get update -qq > /dev/null || true
-    DEBIAN_FRONTEND=noninteractive "${as_root[@]}" apt-get install -y -qq --no-install-recommends "$@" > /dev/null
+    # sudo takes no variable along by itself
+    "${as_root[@]}" env DEBIAN_FRONTEND=noninteractive apt-get install -y -qq --no-install-recommends "$@" > /dev/null
 }
 
 need() {

@@ -129,7 +129,8 @@ static void write_files(void)
     }
 }
 
-/* The list of holidays: a line for each number, as a day number or as a date; and any text, if the input says so. */
+/* The list of holidays: a line for each number, as a day number or as a date; and any text, if the input says so. A number that is no day ends the run, so few of
+   those are written. */
 static void write_list(void)
 {
     static char text[4 * LONGEST_PART];
@@ -140,6 +141,8 @@ static void write_list(void)
         slovdrim_date_answer d;
         memcpy(&day, days->bytes + i, 8);
         proved_date(&d, day);
+        if (d.number != 0 && day % 16 != 1)
+            continue;
         if (d.number != 0 || day % 2 == 0)
             at += (size_t)sprintf(text + at, "%llu\n", (unsigned long long)day);
         else

@@ -15,7 +15,6 @@ ghost use lib.ListN.{length};
 ghost use Rattle.file.specs.Files.{fieldsOf};
 ghost use Rattle.file.specs.Records.{recordsIn};
 ghost use Rattle.keys.specs.Keys.{keyFields, none, third, firstWith};
-ghost use Rattle.keys.specs.KeyFiles.{PlaceIn};
 ghost use Rattle.lookup.specs.Ways.{Way, howOf, fromOf, toOf};
 ghost use Rattle.rules.specs.Texts.{texts, Kinded};
 ghost use Rattle.trail.specs.Trail.{stepOf, placeOf, after, Walks};
@@ -72,8 +71,8 @@ pub fn onward(
 }
 
 // inner: the first record of a file whose key is one number
-pub fn by_one(file: u64, s: &[u8], order: &[u32], ways: &[usize], last: usize, a: u64) -> Found
-    requires { ⌜ (33 ≤ length (now ways)) × Way file (now s) (now order) (howOf (now ways) file) (fromOf (now ways) file) (toOf (now ways) file) × PlaceIn file (now s) last × (length (keyFields file) ≡ 1) × (a < none) ⌝ }
+pub fn by_one(file: u64, s: &[u8], order: &[u32], ways: &[usize], a: u64) -> Found
+    requires { ⌜ (33 ≤ length (now ways)) × Way file (now s) (now order) (howOf (now ways) file) (fromOf (now ways) file) (toOf (now ways) file) × (length (keyFields file) ≡ 1) × (a < none) ⌝ }
     ensures { λ r. ⌜ r ≡ firstWith file (a ∷ []) 0 (recordsIn (fieldsOf file) (now (s .entry))) ⌝ }
 {
     let i = (file as usize) * 3;
@@ -82,7 +81,7 @@ pub fn by_one(file: u64, s: &[u8], order: &[u32], ways: &[usize], last: usize, a
         s,
         ways[i] == 1,
         index_of(order, ways, file),
-        last,
+        0,
         order.len(),
         a,
     );
@@ -90,16 +89,8 @@ pub fn by_one(file: u64, s: &[u8], order: &[u32], ways: &[usize], last: usize, a
 }
 
 // inner: the same by two numbers
-pub fn by_two(
-    file: u64,
-    s: &[u8],
-    order: &[u32],
-    ways: &[usize],
-    last: usize,
-    a: u64,
-    b: u64,
-) -> Found
-    requires { ⌜ (33 ≤ length (now ways)) × Way file (now s) (now order) (howOf (now ways) file) (fromOf (now ways) file) (toOf (now ways) file) × PlaceIn file (now s) last × (length (keyFields file) ≡ 2) × (a < none) × (b < none) ⌝ }
+pub fn by_two(file: u64, s: &[u8], order: &[u32], ways: &[usize], a: u64, b: u64) -> Found
+    requires { ⌜ (33 ≤ length (now ways)) × Way file (now s) (now order) (howOf (now ways) file) (fromOf (now ways) file) (toOf (now ways) file) × (length (keyFields file) ≡ 2) × (a < none) × (b < none) ⌝ }
     ensures { λ r. ⌜ r ≡ firstWith file (a ∷ b ∷ []) 0 (recordsIn (fieldsOf file) (now (s .entry))) ⌝ }
 {
     let i = (file as usize) * 3;
@@ -108,7 +99,7 @@ pub fn by_two(
         s,
         ways[i] == 1,
         index_of(order, ways, file),
-        last,
+        0,
         order.len(),
         a,
         b,

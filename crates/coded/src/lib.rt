@@ -23,7 +23,7 @@ pub fn sign_in(c: u64, f3: &[u8], order: &[u32], ways: &[usize], class: &[u8; 25
     requires { ⌜ (c < none) × Ready codesFile (now f3) (now order) (now ways) × Classes (now class) ⌝ }
     ensures { λ r. ⌜ r ≡ signIn (recordsIn (fieldsOf codesFile) (now (f3 .entry))) c ⌝ }
 {
-    match by_one(3, f3, order, ways, 0, c) {
+    match by_one(3, f3, order, ways, c) {
         Found::At(at) => sign_at(f3, at, class),
         Found::Nothing => 0,
     }

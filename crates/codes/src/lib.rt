@@ -40,7 +40,7 @@ pub fn holds_day(s: &[u8], places: &[usize; 14], d: u64) -> bool
     }
     let to = part(s, places, 6);
     if to.len() == 0 {
-        return day_of(from) == d;
+        return periods::period_holds(day_of(from), false, 0, d);
     }
     periods::period_holds(day_of(from), true, day_of(to), d)
 }

@@ -43,7 +43,7 @@ fn answer_runs(
     if trip >= 1000000000 {
         return Running::NoTrip;
     }
-    match by_two(6, f6, order, ways, 0, line, trip) {
+    match by_two(6, f6, order, ways, line, trip) {
         Found::At(at) => {
             if trip_runs(
                 at,

@@ -3,6 +3,7 @@
 // were read in part are never judged.
 use buffer::gather;
 use buffer::part;
+use together::MOST;
 use wording::program_line;
 ghost use mathlib.Core.Path.{_≡_};
 ghost use Prim.Native.Nat.{_≤_};
@@ -12,7 +13,7 @@ ghost use Rattle.buffer.specs.Buffer.{Stand, partsOf};
 ghost use Rattle.wording.specs.Line.{programLine};
 
 // One byte more than the files may have together: where it is full there are too many.
-const SPACE: usize = 61_441;
+const SPACE: usize = MOST + 1;
 
 // The line of what was read.
 fn line<'a>(buf: &'a [u8], ends: &[usize; 14], d: &mut [u8]) -> usize

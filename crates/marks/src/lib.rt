@@ -76,7 +76,7 @@ fn line_stop_of(f8: &[u8], places: &[usize; 14], f7: &[u8], order: &[u32], ways:
 {
     let line = value_of(part(f8, places, 0));
     let tariff = value_of(part(f8, places, 2));
-    by_two(7, f7, order, ways, 0, line, tariff)
+    by_two(7, f7, order, ways, line, tariff)
 }
 
 // Whether the line's stop of a trip's stop, which was cut, has this sign.

@@ -24,7 +24,7 @@ pub fn parity_fits(kind: u64, number: u64) -> bool
     true
 }
 
-// inner: with no to-date, the one day `from`
+// inner: both ends count; with no to-date (`given` false), the one day `from`
 pub fn period_holds(from: u64, given: bool, to: u64, number: u64) -> bool
     ensures { λ r. ⌜ r ≡ periodHolds from given to number ⌝ }
 {

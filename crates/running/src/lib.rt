@@ -2,7 +2,6 @@
 // codes are looked at as `daysigns` does.
 use daysigns::has_day_sign;
 use daysigns::signs_allow;
-use timecodes::Days;
 use timecodes::held_on;
 use timecodes::types_of;
 ghost use mathlib.Core.Path.{_≡_};
@@ -20,6 +19,13 @@ ghost use Rattle.trail.specs.Trail.{upward};
 ghost use Rattle.trip.specs.Days.{daysFit, codesAllow};
 ghost use Rattle.trip.specs.Stage.{tripsFile};
 ghost use Rattle.trip.specs.View.{signsFrom};
+
+// Whether a trip's days fit, and where the last of its time codes stands, with the last entry of an index that was looked at.
+pub struct Days {
+    pub fit: bool,
+    pub last: usize,
+    pub entry: usize,
+}
 
 // inner: whether a trip, whose record of Spoje was cut, isn't refused with 10; and where the last of its time codes stands
 pub fn days_fit(
@@ -42,14 +48,14 @@ pub fn days_fit(
     let m = types_of(f10, order, ways, last, entry, line, trip, class, &mut seen);
     if seen[3] == 0 {
         return Days {
-            fit: codes::days_fit(&seen, m.fit, false),
+            fit: codes::days_fit(&seen, m.differ, false),
             last: m.last,
             entry: m.entry,
         };
     }
     let dated = has_day_sign(f6, places, f3, order, ways, class);
     Days {
-        fit: codes::days_fit(&seen, m.fit, dated),
+        fit: codes::days_fit(&seen, m.differ, dated),
         last: m.last,
         entry: m.entry,
     }

@@ -160,7 +160,7 @@ pub fn answer_stop(
     if trip >= 1000000000 {
         return Stop::NoTrip;
     }
-    match by_two(6, f6, order, ways, 0, line, trip) {
+    match by_two(6, f6, order, ways, line, trip) {
         Found::At(_) => answer_halt(n, line, trip, f3, f7, f8, order, ways, class),
         Found::Nothing => Stop::NoTrip,
     }

@@ -209,7 +209,7 @@ fn on_day(
     if trip >= 1000000000 {
         return Sold::NoTrip;
     }
-    match by_two(6, f6, order, ways, 0, line, trip) {
+    match by_two(6, f6, order, ways, line, trip) {
         Found::At(at) => of_trip(
             at,
             line,

@@ -26,9 +26,9 @@ struct Marks {
     differ: bool,
 }
 
-// What is wrong with a trip's days, if anything, and where the last of its time codes stands, with the last entry of an index that was looked at.
-pub struct Days {
-    pub fit: bool,
+// Whether the marks of a trip's time codes differ, and where the last of them stands, with the last entry of an index that was looked at.
+pub struct Types {
+    pub differ: bool,
     pub last: usize,
     pub entry: usize,
 }
@@ -68,9 +68,9 @@ pub fn types_of(
     trip: u64,
     class: &[u8; 256],
     seen: &mut [u64],
-) -> Days
+) -> Types
     requires { ⌜ Ready timeCodesFile (now f10) (now order) (now ways) × PlaceIn timeCodesFile (now f10) last × (line < none) × (trip < none) × Classes (now class) × (9 ≤ length (now seen)) ⌝ }
-    ensures { λ r. ⌜ (now (seen .exit) ≡ seenBehind (now (seen .entry)) (upward timeCodesFile line trip (recordsIn (fieldsOf timeCodesFile) (now (f10 .entry))))) × (r .fit ≡ marksDiffer 0 false (upward timeCodesFile line trip (recordsIn (fieldsOf timeCodesFile) (now (f10 .entry))))) × PlaceIn timeCodesFile (now (f10 .entry)) (r .last) ⌝ }
+    ensures { λ r. ⌜ (now (seen .exit) ≡ seenBehind (now (seen .entry)) (upward timeCodesFile line trip (recordsIn (fieldsOf timeCodesFile) (now (f10 .entry))))) × (r .differ ≡ marksDiffer 0 false (upward timeCodesFile line trip (recordsIn (fieldsOf timeCodesFile) (now (f10 .entry))))) × PlaceIn timeCodesFile (now (f10 .entry)) (r .last) ⌝ }
 {
     let mut places: [usize; 14] = [0; 14];
     let mut m = Marks {
@@ -87,8 +87,8 @@ pub fn types_of(
         near = step.at;
         step = step_on(10, f10, &places, order, ways, step, next, true, line, trip);
     }
-    Days {
-        fit: m.differ,
+    Types {
+        differ: m.differ,
         last: near,
         entry: step.entry,
     }

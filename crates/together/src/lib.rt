@@ -6,7 +6,7 @@ ghost use Rattle.thirteen.specs.Batch.{thirteen};
 ghost use Rattle.together.specs.Lengths.{bytesTogether};
 
 // The most bytes that the files have together.
-const MOST: usize = 61_440;
+pub const MOST: usize = 61_440;
 
 // inner: whether the files have 61,440 bytes together at most
 pub fn few_enough<'a>(

@@ -43,7 +43,7 @@ fn valid_on(line: u64, f5: &[u8], order: &[u32], ways: &[usize], class: &[u8; 25
     requires { ⌜ (line < none) × Ready linesFile (now f5) (now order) (now ways) × (has linesFile (line ∷ []) (recordsIn (fieldsOf linesFile) (now f5)) ≡ true) × Classes (now class) ⌝ }
     ensures { λ r. ⌜ r ≡ isValid (firstOr [] (ofLine line) (recordsIn (fieldsOf linesFile) (now (f5 .entry)))) d ⌝ }
 {
-    match by_one(5, f5, order, ways, 0, line) {
+    match by_one(5, f5, order, ways, line) {
         Found::At(at) => valid_at(f5, at, order, ways, class, d),
         Found::Nothing => false,
     }

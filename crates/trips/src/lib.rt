@@ -31,7 +31,7 @@ pub enum Timed {
 }
 
 // The first trip whose days or stops are wrong, gone through in the order of the records of Spoje.
-fn first_timed(
+fn first_wrong(
     f3: &[u8],
     f6: &[u8],
     f8: &[u8],
@@ -84,7 +84,7 @@ fn goes_on(
 
 // Whether nothing is wrong with any trip, gone through in the order of the index of Spoje, where a trip's stops and time codes stand beside those of
 // the trip before; false too where there is no index.
-fn all_timed(
+fn none_wrong(
     f3: &[u8],
     f6: &[u8],
     f8: &[u8],
@@ -133,8 +133,8 @@ pub fn trips_fault(
     requires { ⌜ Ready codesFile (now f3) (now order) (now ways) × Ready tripsFile (now f6) (now order) (now ways) × Ready tripStopsFile (now f8) (now order) (now ways) × Ready timeCodesFile (now f10) (now order) (now ways) × Classes (now class) ⌝ }
     ensures { λ r. ⌜ numberedTimed r ≡ plainFrom (recordsIn (fieldsOf codesFile) (now (f3 .entry))) (recordsIn (fieldsOf tripStopsFile) (now (f8 .entry))) (recordsIn (fieldsOf timeCodesFile) (now (f10 .entry))) 1 (recordsIn (fieldsOf tripsFile) (now (f6 .entry))) ⌝ }
 {
-    if all_timed(f3, f6, f8, f10, order, ways, class) {
+    if none_wrong(f3, f6, f8, f10, order, ways, class) {
         return Timed::Sound;
     }
-    first_timed(f3, f6, f8, f10, order, ways, class)
+    first_wrong(f3, f6, f8, f10, order, ways, class)
 }

@@ -2,6 +2,8 @@
 use mathlib.Core.Path.{refl}
 use borrow.Author.Needs.{needs}
 use denote.Ref.{now}
+use Rattle.file.specs.Files.{fieldsOf}
+use Rattle.lines.proofs.LineLaws.{place-start}
 use Rattle.trail.proofs.WalkLaws.{way-asks}
 use Rattle.byway.proofs.by_one.Statement.{statement}
 use Rattle.byway.proofs.by_one.Tie as tie
@@ -11,7 +13,7 @@ with-one-requires c κs =
     let start = c .before .before .before .before .before in
     let a = start .args in
     let p = start .pre in
-    (way-asks (a .file) (now (a .s)) (now (a .order)) (now (a .ways)) (a .last) 1 (p .1) (p .2) (p .3) _ refl _ (c .index-of .ensures), p .4)
+    (way-asks (a .file) (now (a .s)) (now (a .order)) (now (a .ways)) 0 1 (p .1) (place-start (fieldsOf (a .file)) (now (a .s)) (p .1 .serves .keyed .legal)) (p .2) _ refl _ (c .index-of .ensures), p .3)
 
 pub by-one-spec : {M : Type 1} → statement M
 by-one-spec =

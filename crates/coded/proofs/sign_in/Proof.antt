@@ -1,12 +1,10 @@
 -- `coded::sign_in` meets its contract: the first record of Pevnykod that has the code number has its sign.
 use mathlib.Core.Path.{refl, sym, _∙_}
-use native.Mathlib.Omega.{arith}
 use borrow.Author.Needs.{needs}
 use denote.Ref.{now}
 use Rattle.file.specs.Files.{fieldsOf}
 use Rattle.file.specs.Records.{recordsIn}
 use Rattle.keys.specs.Keys.{keyFields, keyTable}
-use Rattle.lines.proofs.LineLaws.{place-start}
 use Rattle.amiss.proofs.RecordLaws.{sign-found, sign-none}
 use Rattle.coded.proofs.sign_in.Statement.{statement}
 use Rattle.coded.proofs.sign_in.Tie as tie
@@ -16,7 +14,7 @@ unfolding keyFields keyTable
 by-one-requires c κs =
     let start = c .before .before .before in
     let k = start .pre .1 in
-    (k .size, k .way, place-start (fieldsOf 3) (now (start .args .f3)) (k .key .legal), refl, start .pre .0)
+    (k .size, k .way, refl, start .pre .0)
 
 sign-at-requires : tie.Need-sign-at-requires
 sign-at-requires c κs =

@@ -36,12 +36,13 @@ day-of-requires c κs =
 returns-2 : tie.Need-returns-2
 unfolding fieldsOf fieldCounts holdsDay periodHolds
 returns-2 c =
-    let to = c .before in
+    let to = c .before .before in
     let from = to .before .before in
     let part = from .before in
     let k = part .before .before .pre in
     rw
-    (text-at k 5 (omega arith) (part .part .ensures), ne-eqb _ _ (from .if1 .left), text-at k 6 (omega arith) (to .before .part2 .ensures), eq-eqb _ _ (to .if2 .taken), c .day-of .ensures)
+    (text-at k 5 (omega arith) (part .part .ensures), ne-eqb _ _ (from .if1 .left), text-at k 6 (omega arith) (to .before .part2 .ensures), eq-eqb _ _ (to .if2 .taken), ← c .before .day-of .ensures)
+    (c .period-holds .ensures)
 
 day-of-requires-2 : tie.Need-day-of-requires-2
 unfolding fieldsOf fieldCounts kindOf kinds caskody
@@ -65,7 +66,7 @@ returns-3 c =
     let k = part .before .before .pre in
     rw
     (text-at k 5 (omega arith) (part .part .ensures), ne-eqb _ _ (from .if1 .left), text-at k 6 (omega arith) (to .before .part2 .ensures), ne-eqb _ _ (to .if2 .left), ← c .before .before .day-of2 .ensures, ← c .before .day-of3 .ensures)
-    (c .period-holds .ensures)
+    (c .period-holds2 .ensures)
 
 pub holds-day-spec : {M : Type 1} → statement M
 holds-day-spec =
@@ -75,8 +76,9 @@ holds-day-spec =
     returns
     part-requires-2
     day-of-requires
+    (λ c κs. search needs)  -- period-holds-requires
     returns-2
     day-of-requires-2
     day-of-requires-3
-    (λ c κs. search needs)  -- period-holds-requires
+    (λ c κs. search needs)  -- period-holds-requires-2
     returns-3)

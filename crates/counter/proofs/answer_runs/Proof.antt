@@ -10,7 +10,6 @@ use Rattle.file.specs.Files.{fieldsOf}
 use Rattle.file.specs.Records.{recordsIn}
 use Rattle.keys.specs.Keys.{keyFields, keyTable}
 use Rattle.keys.proofs.KeyLaws.{has-found, has-none}
-use Rattle.lines.proofs.LineLaws.{place-start}
 use Rattle.tripruns.proofs.RunsLaws.{found-trip}
 use Rattle.outcome.specs.Answers.{numberedRuns}
 use Rattle.roll.proofs.TripLaws.{no-line, no-trip}
@@ -40,7 +39,7 @@ by-two-requires c κs =
     let l = c .before in
     let start = l .before .before .before .before .before .before .before .before in
     let k = start .pre .3 in
-    (k .size, k .way, place-start (fieldsOf 6) (now (start .args .f6)) (k .key .legal), refl, l .if1 .left, c .if2 .left)
+    (k .size, k .way, refl, l .if1 .left, c .if2 .left)
 
 trip-runs-requires : tie.Need-trip-runs-requires
 trip-runs-requires c κs =

@@ -6,7 +6,6 @@ use denote.Ref.{now}
 use Rattle.file.specs.Files.{fieldsOf, fieldCounts}
 use Rattle.file.specs.Format.{Text, Fields}
 use Rattle.field.specs.Values.{value}
-use Rattle.lines.proofs.LineLaws.{place-start}
 use Rattle.keys.specs.Keys.{third, none}
 use Rattle.link.specs.Met.{number}
 use Rattle.rules.specs.Texts.{texts}
@@ -72,7 +71,7 @@ module _ (v : tie.After-value-of2) where
 by-two-requires : tie.Need-by-two-requires
 by-two-requires c κs =
     let k = start c .pre .1 in
-    (k .size, k .way, place-start (fieldsOf 7) (now (start c .args .f7)) (k .key .legal), two-numbers, line-small c, tariff-small c)
+    (k .size, k .way, two-numbers, line-small c, tariff-small c)
 
 returns : tie.Need-returns
 returns c =

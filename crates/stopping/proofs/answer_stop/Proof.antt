@@ -5,7 +5,6 @@ use denote.Ref.{now}
 use Rattle.file.specs.Files.{fieldsOf}
 use Rattle.file.specs.Format.{Fields}
 use Rattle.file.specs.Records.{recordsIn}
-use Rattle.lines.proofs.LineLaws.{place-start}
 use Rattle.outcome.specs.Answers.{numberedStop}
 use Rattle.stopping.proofs.StoppingLaws.{two-numbers, line-large, trip-large, trip-missing, trip-found}
 use Rattle.stopping.proofs.answer_stop.Statement.{statement}
@@ -43,7 +42,7 @@ by-two-requires : tie.Need-by-two-requires
 by-two-requires c κs =
     let s = c .before .before .before .before .before .before .before .before in
     let k = s .pre .1 in
-    (k .size, k .way, place-start (fieldsOf 6) (now (s .args .f6)) (k .key .legal), two-numbers, c .before .if1 .left, c .if2 .left)
+    (k .size, k .way, two-numbers, c .before .if1 .left, c .if2 .left)
 
 returns-3 : tie.Need-returns-3
 returns-3 c =

@@ -7,7 +7,6 @@ use Rattle.file.specs.Files.{fieldsOf}
 use Rattle.file.specs.Format.{Fields}
 use Rattle.file.specs.Records.{recordsIn}
 use Rattle.keys.proofs.KeyLaws.{has-found, has-none}
-use Rattle.lines.proofs.LineLaws.{place-start}
 use Rattle.tripruns.proofs.RunsLaws.{found-trip}
 use Rattle.roll.proofs.TripLaws.{no-line, no-trip, trip-found}
 use Rattle.stopping.proofs.StoppingLaws.{two-numbers}
@@ -60,7 +59,7 @@ by-two-requires c κs =
     let l = c .before in
     let s = begin l in
     let k = s .pre .4 in
-    (k .size, k .way, place-start (fieldsOf 6) (now (s .args .f6)) (k .key .legal), two-numbers, l .if1 .left, c .if2 .left)
+    (k .size, k .way, two-numbers, l .if1 .left, c .if2 .left)
 
 of-trip-requires : tie.Need-of-trip-requires
 of-trip-requires c κs =

@@ -7,7 +7,6 @@ use Rattle.file.specs.Files.{fieldsOf}
 use Rattle.file.specs.Format.{Fields}
 use Rattle.file.specs.Records.{recordsIn}
 use Rattle.keys.specs.Keys.{keyFields, keyTable}
-use Rattle.lines.proofs.LineLaws.{place-start}
 use Rattle.trip.specs.Days.{isValid}
 use Rattle.tripruns.proofs.RunsLaws.{found-line, found-some, line-found}
 use Rattle.tripruns.proofs.valid_on.Statement.{statement}
@@ -18,7 +17,7 @@ unfolding keyFields keyTable
 by-one-requires c κs =
     let start = c .before .before .before in
     let k = start .pre .1 in
-    (k .size, k .way, place-start (fieldsOf 5) (now (start .args .f5)) (k .key .legal), refl, start .pre .0)
+    (k .size, k .way, refl, start .pre .0)
 
 valid-at-requires : tie.Need-valid-at-requires
 valid-at-requires c κs =

@@ -7,13 +7,13 @@ use Rattle.trips.proofs.trips_fault.Tie as tie
 
 returns : tie.Need-returns
 unfolding numberedTimed
-returns c = sym (c .before .all-timed .ensures (c .if1 .taken))
+returns c = sym (c .before .none-wrong .ensures (c .if1 .taken))
 
 pub trips-fault-spec : {M : Type 1} → statement M
 trips-fault-spec =
     tie.close
     (tie.spec
-    (λ c κs. search needs)  -- all-timed-requires
+    (λ c κs. search needs)  -- none-wrong-requires
     returns
-    (λ c κs. search needs)  -- first-timed-requires
+    (λ c κs. search needs)  -- first-wrong-requires
     (λ c. search needs))  -- returns-2

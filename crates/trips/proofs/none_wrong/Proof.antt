@@ -1,4 +1,4 @@
--- `trips::all_timed` meets its contract. The loop's invariant: nothing is wrong with the trips that the entries below i name.
+-- `trips::none_wrong` meets its contract. The loop's invariant: nothing is wrong with the trips that the entries below i name.
 use Prim.Native.Nat.{_-_}
 use native.Mathlib.Omega.{arith}
 use borrow.Author.Needs.{needs}
@@ -11,8 +11,8 @@ use Rattle.keys.specs.KeyFiles.{PlaceIn, IsIndex}
 use Rattle.lines.proofs.LineLaws.{place-start}
 use Rattle.coded.proofs.LeftLaws.{left-here, left-kinded}
 use Rattle.trips.proofs.IndexedLaws.{indexed, Fit, fit-all, fit-more}
-use Rattle.trips.proofs.all_timed.Statement.{statement}
-use Rattle.trips.proofs.all_timed.Tie as tie
+use Rattle.trips.proofs.none_wrong.Statement.{statement}
+use Rattle.trips.proofs.none_wrong.Tie as tie
 
 abbrev Inv-loop : tie.InvT-loop
 Inv-loop f3 f6 f8 f10 order ways class part stops codes places₀ i₀ tried₀ places i tried =
@@ -87,8 +87,8 @@ returns-4 c =
     let l = c .before in
     (λ e. fit-all _ _ _ _ _ _ (l .loop .inv .0) (start l .pre .1 .key .legal) (l .loop .inv .1) (c .loop-test .left))
 
-pub all-timed-spec : {M : Type 1} → statement M
-all-timed-spec =
+pub none-wrong-spec : {M : Type 1} → statement M
+none-wrong-spec =
     tie.close
     (tie.spec
     Inv-loop

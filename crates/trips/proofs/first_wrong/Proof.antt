@@ -1,4 +1,4 @@
--- `trips::first_timed` meets its contract. The loop's invariant: the first fault of the trips from `at` on, the first of which is record k, is that
+-- `trips::first_wrong` meets its contract. The loop's invariant: the first fault of the trips from `at` on, the first of which is record k, is that
 -- of all.
 use mathlib.Core.Path.{sym, _∙_}
 use Prim.Native.Nat.{_-_}
@@ -13,8 +13,8 @@ use Rattle.lines.proofs.LineLaws.{place-start}
 use Rattle.coded.proofs.LeftLaws.{left-here, left-kinded}
 use Rattle.trips.specs.Answers.{numberedTimed}
 use Rattle.trips.proofs.LeftLaws.{Left, left-start, left-end, left-stop, left-next, apart, fault-few}
-use Rattle.trips.proofs.first_timed.Statement.{statement}
-use Rattle.trips.proofs.first_timed.Tie as tie
+use Rattle.trips.proofs.first_wrong.Statement.{statement}
+use Rattle.trips.proofs.first_wrong.Tie as tie
 
 abbrev Inv-loop : tie.InvT-loop
 Inv-loop f3 f6 f8 f10 order ways class places₀ k₀ at₀ tried₀ places k at tried =
@@ -95,8 +95,8 @@ returns-3 : tie.Need-returns-3 Inv-loop μ-loop
 unfolding numberedTimed
 returns-3 c = left-end _ _ _ _ _ _ (c .before .loop .inv .0) (c .loop-test .left)
 
-pub first-timed-spec : {M : Type 1} → statement M
-first-timed-spec =
+pub first-wrong-spec : {M : Type 1} → statement M
+first-wrong-spec =
     tie.close
     (tie.spec
     Inv-loop

@@ -1,5 +1,5 @@
-// The readers of Udaje, Caskody, Altdop and Mistenky: what is noted of lines and trips. Each knows the kinds of its file, reads a record as `read_any`
-// does, and answers 0 where n is not how many fields its file has.
+// The readers of Udaje, Caskody, Altdop and Mistenky: what is noted of lines and trips. Each knows the kinds of its file and reads a record as
+// `read_any` does.
 ghost use mathlib.Core.Path.{_≡_};
 ghost use Prim.Native.Nat.{_≤_};
 ghost use lib.ListN.{length};
@@ -21,16 +21,12 @@ pub fn read_note(
     file: u64,
     s: &[u8],
     start: usize,
-    n: usize,
     class: &[u8; 256],
     places: &mut [usize; 14],
 ) -> usize
     requires { ⌜ (start ≤ length (now s)) × LineFirst file × (kindOf file 3 ≡ Kind.Text 1 254) × Classes (now class) ⌝ }
-    ensures { λ r. ⌜ ((r ≡ 0 → ⊥) → ReadTo file n (now (s .entry)) start (now (places .exit)) r) ⌝ }
+    ensures { λ r. ⌜ ((r ≡ 0 → ⊥) → ReadTo file 3 (now (s .entry)) start (now (places .exit)) r) ⌝ }
 {
-    if n != 3 {
-        return 0;
-    }
     let at = line_and_number(file, 3, s, start, places);
     if at == 0 {
         return 0;
@@ -73,19 +69,10 @@ fn caskody_rest(
 }
 
 // inner: reads a record of Caskody
-pub fn read_caskody(
-    s: &[u8],
-    start: usize,
-    n: usize,
-    class: &[u8; 256],
-    places: &mut [usize; 14],
-) -> usize
+pub fn read_caskody(s: &[u8], start: usize, class: &[u8; 256], places: &mut [usize; 14]) -> usize
     requires { ⌜ (start ≤ length (now s)) × Classes (now class) ⌝ }
-    ensures { λ r. ⌜ ((r ≡ 0 → ⊥) → ReadTo 10 n (now (s .entry)) start (now (places .exit)) r) ⌝ }
+    ensures { λ r. ⌜ ((r ≡ 0 → ⊥) → ReadTo 10 8 (now (s .entry)) start (now (places .exit)) r) ⌝ }
 {
-    if n != 8 {
-        return 0;
-    }
     let at = line_and_number(10, 8, s, start, places);
     if at == 0 {
         return 0;
@@ -128,19 +115,10 @@ fn altdop_rest(
 }
 
 // inner: reads a record of Altdop
-pub fn read_altdop(
-    s: &[u8],
-    start: usize,
-    n: usize,
-    class: &[u8; 256],
-    places: &mut [usize; 14],
-) -> usize
+pub fn read_altdop(s: &[u8], start: usize, class: &[u8; 256], places: &mut [usize; 14]) -> usize
     requires { ⌜ (start ≤ length (now s)) × Classes (now class) ⌝ }
-    ensures { λ r. ⌜ ((r ≡ 0 → ⊥) → ReadTo 11 n (now (s .entry)) start (now (places .exit)) r) ⌝ }
+    ensures { λ r. ⌜ ((r ≡ 0 → ⊥) → ReadTo 11 13 (now (s .entry)) start (now (places .exit)) r) ⌝ }
 {
-    if n != 13 {
-        return 0;
-    }
     let at = line_and_number(11, 13, s, start, places);
     if at == 0 {
         return 0;

@@ -1,5 +1,5 @@
-// The readers of Zastavky, Spoje, Zaslinky and Zasspoje: of stops, trips, and where and when these call. Each knows the kinds of its file, reads a record
-// as `read_any` does, and answers 0 where n is not how many fields its file has.
+// The readers of Zastavky, Spoje, Zaslinky and Zasspoje: of stops, trips, and where and when these call. Each knows the kinds of its file and reads a record
+// as `read_any` does.
 ghost use mathlib.Core.Path.{_≡_};
 ghost use Prim.Native.Nat.{_≤_};
 ghost use lib.ListN.{length};
@@ -42,19 +42,10 @@ fn zastavky_rest(
 }
 
 // inner: reads a record of Zastavky
-pub fn read_zastavky(
-    s: &[u8],
-    start: usize,
-    n: usize,
-    class: &[u8; 256],
-    places: &mut [usize; 14],
-) -> usize
+pub fn read_zastavky(s: &[u8], start: usize, class: &[u8; 256], places: &mut [usize; 14]) -> usize
     requires { ⌜ (start ≤ length (now s)) × Classes (now class) ⌝ }
-    ensures { λ r. ⌜ ((r ≡ 0 → ⊥) → ReadTo 2 n (now (s .entry)) start (now (places .exit)) r) ⌝ }
+    ensures { λ r. ⌜ ((r ≡ 0 → ⊥) → ReadTo 2 12 (now (s .entry)) start (now (places .exit)) r) ⌝ }
 {
-    if n != 12 {
-        return 0;
-    }
     let at = begin(2, 12, s, start, places);
     let at = number_on(2, 0, 12, s, start, at, 1, 9, places);
     if at == 0 {
@@ -76,13 +67,10 @@ pub fn read_zastavky(
 }
 
 // inner: the same, of Spoje
-pub fn read_spoje(s: &[u8], start: usize, n: usize, places: &mut [usize; 14]) -> usize
+pub fn read_spoje(s: &[u8], start: usize, places: &mut [usize; 14]) -> usize
     requires { ⌜ start ≤ length (now s) ⌝ }
-    ensures { λ r. ⌜ ((r ≡ 0 → ⊥) → ReadTo 6 n (now (s .entry)) start (now (places .exit)) r) ⌝ }
+    ensures { λ r. ⌜ ((r ≡ 0 → ⊥) → ReadTo 6 12 (now (s .entry)) start (now (places .exit)) r) ⌝ }
 {
-    if n != 12 {
-        return 0;
-    }
     let at = line_and_number(6, 12, s, start, places);
     if at == 0 {
         return 0;
@@ -95,19 +83,10 @@ pub fn read_spoje(s: &[u8], start: usize, n: usize, places: &mut [usize; 14]) ->
 }
 
 // inner: the same, of Zaslinky
-pub fn read_zaslinky(
-    s: &[u8],
-    start: usize,
-    n: usize,
-    class: &[u8; 256],
-    places: &mut [usize; 14],
-) -> usize
+pub fn read_zaslinky(s: &[u8], start: usize, class: &[u8; 256], places: &mut [usize; 14]) -> usize
     requires { ⌜ (start ≤ length (now s)) × Classes (now class) ⌝ }
-    ensures { λ r. ⌜ ((r ≡ 0 → ⊥) → ReadTo 7 n (now (s .entry)) start (now (places .exit)) r) ⌝ }
+    ensures { λ r. ⌜ ((r ≡ 0 → ⊥) → ReadTo 7 7 (now (s .entry)) start (now (places .exit)) r) ⌝ }
 {
-    if n != 7 {
-        return 0;
-    }
     let at = line_and_number(7, 7, s, start, places);
     if at == 0 {
         return 0;
@@ -152,19 +131,10 @@ fn zasspoje_rest(s: &[u8], start: usize, from: usize, places: &mut [usize; 14]) 
 }
 
 // inner: reads a record of Zasspoje
-pub fn read_zasspoje(
-    s: &[u8],
-    start: usize,
-    n: usize,
-    class: &[u8; 256],
-    places: &mut [usize; 14],
-) -> usize
+pub fn read_zasspoje(s: &[u8], start: usize, class: &[u8; 256], places: &mut [usize; 14]) -> usize
     requires { ⌜ (start ≤ length (now s)) × Classes (now class) ⌝ }
-    ensures { λ r. ⌜ ((r ≡ 0 → ⊥) → ReadTo 8 n (now (s .entry)) start (now (places .exit)) r) ⌝ }
+    ensures { λ r. ⌜ ((r ≡ 0 → ⊥) → ReadTo 8 10 (now (s .entry)) start (now (places .exit)) r) ⌝ }
 {
-    if n != 10 {
-        return 0;
-    }
     let at = line_and_number(8, 10, s, start, places);
     if at == 0 {
         return 0;

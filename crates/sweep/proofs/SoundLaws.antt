@@ -21,6 +21,7 @@ use Rattle.rules.specs.Texts.{Kinded}
 use Rattle.walk.specs.Walk.{Parted, cutRecord}
 use Rattle.walk.proofs.WalkLaws.{cut-size, none-left}
 use Rattle.readany.specs.Reads.{ReadTo}
+use Rattle.readany.proofs.PlaceLaws.{read-as}
 use Rattle.sweep.specs.Sweep.{Fielded, SoundFrom}
 
 -- a file of this number has so many fields
@@ -32,6 +33,11 @@ fielded file n e h l =
 -- a record of every file has a field
 pub some-fields : (file n : ℕ) → Fielded file n → 1 ≤ n
 some-fields file n h = rw (h .fields) (file-fields file (h .file-is))
+
+-- a record that was read as one of file k with m fields, where that is the file
+pub read-by : {file k n m : ℕ} {s : List ℕ} {start : ℕ} {places : List ℕ} {next : ℕ} → Fielded file n → file ≡ k → fieldsOf k ≡ m
+    → ReadTo k m s start places next → ReadTo file n s start places next
+read-by h e f r = read-as e (h .fields ∙ ap fieldsOf e ∙ f) r
 
 -- where no bytes are left, nothing is wrong
 pub sound-end : (file n : ℕ) (s : List ℕ) (at : ℕ) → Fielded file n → length s ≤ at → SoundFrom file n s at

@@ -27,18 +27,18 @@ pub fn read_on(
     class: &[u8; 256],
     places: &mut [usize; 14],
 ) -> usize
-    requires { ⌜ (start ≤ length (now s)) × (1 ≤ n) × (n ≤ 13) × Classes (now class) ⌝ }
+    requires { ⌜ (start ≤ length (now s)) × Fielded file n × Classes (now class) ⌝ }
     ensures { λ r. ⌜ ((r ≡ 0 → ⊥) → ReadTo file n (now (s .entry)) start (now (places .exit)) r) ⌝ }
 {
     match file {
-        2 => read_zastavky(s, start, n, class, places),
-        6 => read_spoje(s, start, n, places),
-        7 => read_zaslinky(s, start, n, class, places),
-        8 => read_zasspoje(s, start, n, class, places),
-        9 => read_note(9, s, start, n, class, places),
-        10 => read_caskody(s, start, n, class, places),
-        11 => read_altdop(s, start, n, class, places),
-        13 => read_note(13, s, start, n, class, places),
+        2 => read_zastavky(s, start, class, places),
+        6 => read_spoje(s, start, places),
+        7 => read_zaslinky(s, start, class, places),
+        8 => read_zasspoje(s, start, class, places),
+        9 => read_note(9, s, start, class, places),
+        10 => read_caskody(s, start, class, places),
+        11 => read_altdop(s, start, class, places),
+        13 => read_note(13, s, start, class, places),
         _ => read_any(file, s, start, n, class, places),
     }
 }

@@ -12,7 +12,7 @@ use Rattle.lookup.specs.Ways.{Lasts}
 use Rattle.thirteen.specs.Batch.{thirteen}
 use Rattle.readany.proofs.PlaceLaws.{read-as}
 use Rattle.sweep.specs.Sweep.{Fielded}
-use Rattle.sweep.proofs.SoundLaws.{fielded, some-fields, kinded}
+use Rattle.sweep.proofs.SoundLaws.{fielded, kinded}
 use Rattle.amiss.proofs.RecordLaws.{later}
 use Rattle.recall.specs.Recall.{Recalls}
 use Rattle.passage.proofs.PassLaws.{PassesOn, passes-all, passes-end, passes-step}
@@ -61,8 +61,7 @@ loop-holds c =
 read-on-requires : tie.Need-read-on-requires Inv-loop μ-loop
 read-on-requires c κs =
     let l = c .before .before in
-    let n = l .before .fields-of .ensures in
-    (l .loop .inv .0, omega (arith, n, some-fields (file l) _ (fields l)), omega (arith, n, fields l .few), start l .pre .2 .table)
+    (l .loop .inv .0, fielded (file l) _ (l .before .fields-of .ensures) (omega (arith, start l .pre .0)) (start l .pre .1), start l .pre .2 .table)
 
 key-of-requires : tie.Need-key-of-requires Inv-loop μ-loop
 key-of-requires c κs =

@@ -8,30 +8,28 @@ use Rattle.readnotes.proofs.read_note.Tie as tie
 
 line-and-number-requires : tie.Need-line-and-number-requires
 line-and-number-requires c κs =
-    let b = c .before .before .before in
+    let b = c .before .before in
     (b .pre .0, lit≤ tt, lit≤ tt, b .pre .1)
 
 text-on-requires : tie.Need-text-on-requires
 text-on-requires c κs =
     let e = c .before in
-    let b = e .before .before .before .before .before in
-    (record { due = e .before .line-and-number .ensures (e .if2 .left); more = lit< tt; is = b .pre .2 }, b .pre .3)
+    let b = e .before .before .before .before in
+    (record { due = e .before .line-and-number .ensures (e .if1 .left); more = lit< tt; is = b .pre .2 }, b .pre .3)
 
-returns-4 : tie.Need-returns-4
-returns-4 c some =
+returns-3 : tie.Need-returns-3
+returns-3 c some =
     let e = c .before in
-    let o = e .before .before .before .before .before .before in
-    let b = o .before .before in
-    due-all (b .args .file) (b .args .n) 3 (now (b .args .s)) (b .args .start) _ 3 _ _ (e .before .text-on .ensures (e .if3 .left)) (o .if1 .left) refl (lit≤ tt) (c .line-end .ensures some)
+    let b = e .before .before .before .before .before .before .before in
+    due-all (b .args .file) 3 3 (now (b .args .s)) (b .args .start) _ 3 _ _ (e .before .text-on .ensures (e .if2 .left)) refl refl (lit≤ tt) (c .line-end .ensures some)
 
 pub read-note-spec : {M : Type 1} → statement M
 read-note-spec =
     tie.close
     (tie.spec
-    (λ c some. absurd (some refl))  -- returns
     line-and-number-requires
-    (λ c some. absurd (some refl))  -- returns-2
+    (λ c some. absurd (some refl))  -- returns
     text-on-requires
-    (λ c some. absurd (some refl))  -- returns-3
+    (λ c some. absurd (some refl))  -- returns-2
     (λ c κs. tt)  -- line-end-requires
-    returns-4)
+    returns-3)

@@ -9,29 +9,27 @@ use Rattle.readtrips.proofs.read_spoje.Tie as tie
 
 line-and-number-requires : tie.Need-line-and-number-requires
 line-and-number-requires c κs =
-    let b = c .before .before .before in
+    let b = c .before .before in
     (b .pre, lit≤ tt, lit≤ tt, first-6)
 
 codes-on-requires : tie.Need-codes-on-requires
 codes-on-requires c κs =
     let e = c .before in
-    (e .before .line-and-number .ensures (e .if2 .left), lit≤ tt, lit≤ tt, codes-6)
+    (e .before .line-and-number .ensures (e .if1 .left), lit≤ tt, lit≤ tt, codes-6)
 
-returns-4 : tie.Need-returns-4
-returns-4 c some =
+returns-3 : tie.Need-returns-3
+returns-3 c some =
     let e = c .before in
-    let o = e .before .before .before .before .before .before in
-    let b = o .before .before in
-    due-all 6 (b .args .n) 12 (now (b .args .s)) (b .args .start) _ 12 _ _ (e .before .codes-on .ensures (e .if3 .left)) (o .if1 .left) refl (lit≤ tt) (c .line-end .ensures some)
+    let b = e .before .before .before .before .before .before .before in
+    due-all 6 12 12 (now (b .args .s)) (b .args .start) _ 12 _ _ (e .before .codes-on .ensures (e .if2 .left)) refl refl (lit≤ tt) (c .line-end .ensures some)
 
 pub read-spoje-spec : {M : Type 1} → statement M
 read-spoje-spec =
     tie.close
     (tie.spec
-    (λ c some. absurd (some refl))  -- returns
     line-and-number-requires
-    (λ c some. absurd (some refl))  -- returns-2
+    (λ c some. absurd (some refl))  -- returns
     codes-on-requires
-    (λ c some. absurd (some refl))  -- returns-3
+    (λ c some. absurd (some refl))  -- returns-2
     (λ c κs. tt)  -- line-end-requires
-    returns-4)
+    returns-3)

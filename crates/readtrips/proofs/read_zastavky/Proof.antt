@@ -3,7 +3,6 @@ use mathlib.Core.Path.{refl}
 use borrow.Author.Needs.{needs}
 use lib.Dec.{lit<}
 use Rattle.field.specs.Kinds.{kindOf, kinds, zastavky}
-use Rattle.readany.proofs.PlaceLaws.{read-as}
 use Rattle.readtrips.proofs.read_zastavky.Statement.{statement}
 use Rattle.readtrips.proofs.read_zastavky.Tie as tie
 
@@ -17,45 +16,44 @@ text-on-requires : tie.Need-text-on-requires
 unfolding kindOf kinds zastavky
 text-on-requires c κs =
     let e = c .before in
-    let b = e .before .before .before .before .before .before .before in
-    (record { due = e .before .number-on .ensures (e .if2 .left); more = lit< tt; is = refl }, b .pre .1)
+    let b = e .before .before .before .before .before .before in
+    (record { due = e .before .number-on .ensures (e .if1 .left); more = lit< tt; is = refl }, b .pre .1)
 
 text-on-requires-2 : tie.Need-text-on-requires-2
 unfolding kindOf kinds zastavky
 text-on-requires-2 c κs =
     let e = c .before in
-    let b = e .before .before .before .before .before .before .before .before .before .before in
-    (record { due = e .before .text-on .ensures (e .if3 .left); more = lit< tt; is = refl }, b .pre .1)
+    let b = e .before .before .before .before .before .before .before .before .before in
+    (record { due = e .before .text-on .ensures (e .if2 .left); more = lit< tt; is = refl }, b .pre .1)
 
 text-on-requires-3 : tie.Need-text-on-requires-3
 unfolding kindOf kinds zastavky
 text-on-requires-3 c κs =
     let e = c .before in
-    let b = e .before .before .before .before .before .before .before .before .before .before .before .before .before in
-    (record { due = e .before .text-on2 .ensures (e .if4 .left); more = lit< tt; is = refl }, b .pre .1)
+    let b = e .before .before .before .before .before .before .before .before .before .before .before .before in
+    (record { due = e .before .text-on2 .ensures (e .if3 .left); more = lit< tt; is = refl }, b .pre .1)
 
 zastavky-rest-requires : tie.Need-zastavky-rest-requires
 zastavky-rest-requires c κs =
     let e = c .before in
-    let b = e .before .before .before .before .before .before .before .before .before .before .before .before .before .before .before .before in
-    (e .before .text-on3 .ensures (e .if5 .left), b .pre .1)
+    let b = e .before .before .before .before .before .before .before .before .before .before .before .before .before .before .before in
+    (e .before .text-on3 .ensures (e .if4 .left), b .pre .1)
 
-returns-6 : tie.Need-returns-6
-returns-6 c some = read-as refl (c .before .before .before .before .before .before .before .before .before .before .before .before .before .before .before .before .if1 .left) (c .zastavky-rest .ensures some)
+returns-5 : tie.Need-returns-5
+returns-5 c some = c .zastavky-rest .ensures some
 
 pub read-zastavky-spec : {M : Type 1} → statement M
 read-zastavky-spec =
     tie.close
     (tie.spec
-    (λ c some. absurd (some refl))  -- returns
     (λ c κs. search needs)  -- begin-requires
     number-on-requires
-    (λ c some. absurd (some refl))  -- returns-2
+    (λ c some. absurd (some refl))  -- returns
     text-on-requires
-    (λ c some. absurd (some refl))  -- returns-3
+    (λ c some. absurd (some refl))  -- returns-2
     text-on-requires-2
-    (λ c some. absurd (some refl))  -- returns-4
+    (λ c some. absurd (some refl))  -- returns-3
     text-on-requires-3
-    (λ c some. absurd (some refl))  -- returns-5
+    (λ c some. absurd (some refl))  -- returns-4
     zastavky-rest-requires
-    returns-6)
+    returns-5)

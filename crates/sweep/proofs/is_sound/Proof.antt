@@ -8,7 +8,7 @@ use lib.ListN.{length}
 use denote.Ref.{now}
 use Rattle.laws.specs.Tests.{never}
 use Rattle.sweep.specs.Sweep.{SoundFrom}
-use Rattle.sweep.proofs.SoundLaws.{some-fields, sound-end, kinded, meeting, sound-step}
+use Rattle.sweep.proofs.SoundLaws.{sound-end, kinded, meeting, sound-step}
 use Rattle.sweep.proofs.is_sound.Statement.{statement}
 use Rattle.sweep.proofs.is_sound.Tie as tie
 
@@ -22,7 +22,7 @@ read-on-requires : tie.Need-read-on-requires Inv-loop μ-loop
 read-on-requires c κs =
     let l = c .before .before .before in
     let b = l .before .before .before in
-    (l .loop .inv .0, some-fields (b .args .file) (b .args .n) (b .pre), b .pre .few, l .before .classes .ensures)
+    (l .loop .inv .0, b .pre, l .before .classes .ensures)
 
 meets-rules-requires : tie.Need-meets-rules-requires Inv-loop μ-loop
 meets-rules-requires c κs =

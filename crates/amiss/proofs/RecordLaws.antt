@@ -1,4 +1,5 @@
--- Laws of a record that is looked at: its texts, the record that a search finds, and what is wrong with a field, link by link.
+-- Laws of a record that is looked at: its texts and their numbers, the record of Pevnykod that a search finds and its sign, and that a Zaslinky
+-- record's stop is met.
 use mathlib.Core.Path.{_≡_, refl, sym, ap, _∙_}
 use mathlib.Core.Bool.{true, false}
 use mathlib.Core.List.{List, [], _∷_, _++_}

@@ -1,6 +1,7 @@
 -- The laws that pin the calendar, to be held beside any almanac: the day after a date has the next number, numbers and dates are inverse,
 -- the weekday moves on by one each day, the week's number changes on Mondays only, a year has 52 or 53 weeks.
--- A day lies between its year's first day and the next year's, and so with months (`Real`); the steps are in `Turns`.
+-- A day lies between its year's first day and the next year's, and so with months (`Real` in the crate `dates`); the steps are in
+-- `Turns` of `weeks`.
 use mathlib.Core.Path.{_≡_, refl, sym, ap, _∙_}
 use mathlib.Core.Bool.{Bool, true, false}
 use mathlib.Core.List.{List}

@@ -17,8 +17,8 @@ ghost use Rattle.coded.specs.Ready.{Ready};
 ghost use Rattle.trip.specs.Stops.{stopsFit};
 ghost use Rattle.calling.specs.Calling.{travelled, firstPlace};
 
-// What is wrong with a trip's stops, if anything, and where the one that stands last in the file does, with the last entry of an index that
-// was looked at: the next trip's are expected behind it.
+// Whether a trip's stops fit, and where the one that is last in the file stands, with the last entry of an index that was looked at: the
+// next trip's are expected behind it.
 pub struct Stops {
     pub fit: bool,
     pub last: usize,

@@ -1,5 +1,5 @@
--- What is asked of one file of a batch, where records of a trip are looked for in it: it is legal, its records are of their kinds and meet their
--- rules, no two have one key, and the way to them was made out.
+-- What is asked of one file of a batch that stands, where its records are read or looked for: it is legal, its records are of their kinds and meet
+-- their rules, no two have one key, and the way to them was made out.
 use Prim.Native.Nat.{ℕ, _≤_}
 use mathlib.Core.List.{List}
 use lib.ListN.{length}

@@ -1,4 +1,4 @@
--- Questions about a batch's trips. A question on a batch that isn't accepted gives that batch's refusal.
+-- Whether a trip runs on a day. A question on a batch that isn't accepted gives that batch's refusal.
 use Prim.Native.Nat.{ℕ}
 use mathlib.Core.Bool.{Bool}
 use mathlib.Core.List.{List, [], _∷_}

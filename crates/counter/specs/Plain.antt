@@ -1,4 +1,4 @@
--- The answers as the code goes about them, on the records of each file.
+-- The answer as the code goes about it, on the records of each file.
 use Prim.Native.Nat.{ℕ}
 use mathlib.Core.Path.{_≡_}
 use mathlib.Core.Bool.{true}

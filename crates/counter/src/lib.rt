@@ -1,4 +1,4 @@
-// Questions about a batch's trips. Each takes any bytes and any numbers, and checks the batch first.
+// Whether a trip of a batch runs on a day. The call takes any bytes and any numbers, and checks the batch first.
 use batch::check_with;
 use byway::by_two;
 use fault::is_none;

@@ -9,7 +9,7 @@ use Rattle.file.specs.Format.{Text}
 use Rattle.field.specs.Values.{isEmpty, among, isByte, sized, isDigits, isDateText, isTime}
 use Rattle.field.specs.declared.Kind.{Kind}
 
--- number: 1-9 digits; code number: 1-5 digits, or none where a code is given in a record; line: 6 digits; IČO: 8
+-- number: 1-9 digits; code number: 1-5 digits (where a record names a code, it may be empty); line: 6 digits; IČO: 8
 abbrev pub number : Kind
 number = Kind.Digits 1 9
 

@@ -1,4 +1,5 @@
--- Laws of the reader's answers: which refusal comes first, what an answer says of the reading, and that `numbered` tells all cases apart.
+-- Laws of the reader's answers: which refusal comes first, what an answer says of the reading, and that a refusal has a number other than 0
+-- and no values.
 use mathlib.Core.Path.{_≡_, refl, ap, _∙_, sym}
 use mathlib.Core.Bool.{Bool, true, false}
 use mathlib.Core.List.{List, [], _∷_}

@@ -1,4 +1,5 @@
-// The record of a trip that is next in key order, in the same three ways: where keys rise by bisection, by a lent index, record by record.
+// The record of a trip that is next in key order, in three ways that meet one promise, `nextOf`: where keys rise by bisection, by a lent index,
+// record by record.
 use keys::Key;
 use keys::key_at;
 use lines::line_after;

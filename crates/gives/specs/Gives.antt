@@ -1,4 +1,5 @@
--- What each exported call on a batch gives, for C; of the questions about trips, TripGives.antt.
+-- What the exported check and questions on a batch give, for C; of the questions about trips, TripGives.antt, of the hint's maker, the crate
+-- `hintresults`.
 use Prim.Native.Nat.{ℕ}
 use mathlib.Core.Path.{_≡_}
 use mathlib.Core.List.{List}

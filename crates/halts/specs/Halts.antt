@@ -1,4 +1,4 @@
--- A trip's stops one by one, as the code goes about them: the records of each file are looked through as they are.
+-- A trip's nth stop, by what is left of its Zasspoje records where the walk stands.
 use Prim.Native.Nat.{ℕ, _+_}
 use mathlib.Core.Path.{_≡_}
 use mathlib.Core.List.{List}

@@ -1,5 +1,5 @@
-// The record of a trip that comes before some number in key order, in three ways that meet one promise, `previousOf`, as `find` has it for the
-// next one: where keys rise, the line before the first record that is not below; else the entry before it in a lent index; else every record.
+// The record of a trip that comes before some number in key order, in three ways that meet one promise, `previousOf`, as `following` has it for
+// the next one: where keys rise, the line before the first record that is not below; else the entry before it in a lent index; else every record.
 use find::with_three;
 use keys::key_at;
 use lines::line_after;

@@ -1,6 +1,6 @@
-// The file's calls for C (document 01, "Bytes of a file"). Each result's `number` is 0 for an answer, else the refusal's; the place and
-// the answer's values follow, 0 where there is none. Bytes are lent for the call alone; only `slovdrim_write` writes, and only where it
-// answers.
+// The file's calls for C (document 01, "Bytes of a file"), and the version. Each result's `number` is 0 for an answer, else the refusal's;
+// the place and the answer's values follow, 0 where there is none; the version is a number alone. Bytes are lent for the call alone; only
+// `slovdrim_write` writes, and only where it answers.
 use fileresults::RecordsResult;
 use fileresults::StretchResult;
 use fileresults::WriteResult;

@@ -1,4 +1,4 @@
--- `link::table::links_in` meets its contract: each arm is the size of a file's list of links.
+-- `targets::links_in` meets its contract: each arm is the size of a file's list of links.
 use mathlib.Core.Path.{_≡_}
 use borrow.Author.Needs.{needs}
 use Rattle.link.specs.Links.{links, linksIn, zastavky, linky, spoje, zaslinky, zasspoje, udaje, caskody, altdop, altlinky, mistenky}

@@ -1,6 +1,5 @@
 -- `coded::sign_in` meets its contract: the first record of Pevnykod that has the code number has its sign.
 use mathlib.Core.Path.{refl, sym, _∙_}
-use native.Mathlib.Omega.{arith}
 use borrow.Author.Needs.{needs}
 use denote.Ref.{now}
 use Rattle.file.specs.Files.{fieldsOf}

@@ -6,7 +6,6 @@ use field::is_digits;
 use field::is_one_of;
 use field::is_time;
 ghost use mathlib.Core.Path.{_≡_};
-ghost use lib.ListN.{length};
 ghost use Rattle.laws.specs.Tests.{oneOf};
 ghost use Rattle.field.specs.Values.{isEmpty, among, sized};
 ghost use Rattle.field.specs.Kinds.{admits};

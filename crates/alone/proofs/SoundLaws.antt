@@ -16,20 +16,20 @@ use Rattle.filefaults.specs.Version.{RightVersion}
 use Rattle.overfiles.specs.OneFile.{lengthFault, bytesFault}
 use Rattle.overfiles.proofs.FileLaws.{short-enough}
 use Rattle.filestages.specs.Order.{firstFault, fileStages}
-use Rattle.alone.specs.Sound.{SoundFile, SoundFiles}
+use Rattle.alone.specs.Sound.{SweptFile, SweptFiles}
 
 -- the file that was chosen by its number is sound
-pub sound-file : (b : Batch) (file n : ℕ) (s : List ℕ) → s ≡ fileIn b file → n ≡ fieldsOf file → length s ≤ longest → SoundFrom file n s 0 → SoundFile file (fileIn b file)
+pub sound-file : (b : Batch) (file n : ℕ) (s : List ℕ) → s ≡ fileIn b file → n ≡ fieldsOf file → length s ≤ longest → SoundFrom file n s 0 → SweptFile file (fileIn b file)
 sound-file b file n s e z h w = rw (← e) (record { short = h; sound = rw z at w })
 
 -- each file behind this one is sound; and so is each behind the one before it, if it is too
 abbrev pub SoundBehind : Batch → ℕ → Type 0
-SoundBehind b file = (k : ℕ) → file < k → k ≤ 13 → SoundFile k (fileIn b k)
+SoundBehind b file = (k : ℕ) → file < k → k ≤ 13 → SweptFile k (fileIn b k)
 
-pub sound-more : (b : Batch) (file before : ℕ) → file ≡ before + 1 → SoundBehind b file → SoundFile file (fileIn b file) → SoundBehind b before
+pub sound-more : (b : Batch) (file before : ℕ) → file ≡ before + 1 → SoundBehind b file → SweptFile file (fileIn b file) → SoundBehind b before
 sound-more b file before e w f k h l = go (ℕ-discrete k file)
   where
-    go : Dec (k ≡ file) → SoundFile k (fileIn b k)
+    go : Dec (k ≡ file) → SweptFile k (fileIn b k)
     go (yes z) = rw z f
     go (no z) = w k (omega arith) l
 
@@ -40,7 +40,7 @@ over-none fault file zero h = refl
 over-none fault file (suc count) h =
     rw (h file (omega arith) (omega arith)) (over-none fault (file + 1) count (λ i l m. h i (omega arith) (omega arith)))
 
-module _ (b : Batch) (v : RightVersion (fileIn b 1)) (w : SoundFiles b) where
+module _ (b : Batch) (v : RightVersion (fileIn b 1)) (w : SweptFiles b) where
   -- none is too long
   short : (file : ℕ) → 1 ≤ file → file < 1 + 13 → lengthFault b file ≡ answered []
   short file h l = go (ℕ-discrete file 1)

@@ -7,10 +7,10 @@ use Rattle.sweep.specs.Sweep.{SoundFrom}
 use Rattle.thirteen.specs.Batch.{Batch, fileIn}
 
 -- a file is not too long, legal, and its records have no fault
-pub record SoundFile (file : ℕ) (s : List ℕ) : Type 0 where
+pub record SweptFile (file : ℕ) (s : List ℕ) : Type 0 where
   pub short : length s ≤ longest
   pub sound : SoundFrom file (fieldsOf file) s 0
 
 -- each of the files 2-13 is so
-abbrev pub SoundFiles : Batch → Type 0
-SoundFiles b = (file : ℕ) → 2 ≤ file → file ≤ 13 → SoundFile file (fileIn b file)
+abbrev pub SweptFiles : Batch → Type 0
+SweptFiles b = (file : ℕ) → 2 ≤ file → file ≤ 13 → SweptFile file (fileIn b file)

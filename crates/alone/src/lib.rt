@@ -13,7 +13,7 @@ ghost use Rattle.laws.specs.Numbered.{answered};
 ghost use Rattle.thirteen.specs.Batch.{thirteen};
 ghost use Rattle.fault.specs.Answers.{numberedFault};
 ghost use Rattle.filestages.specs.Order.{firstFault, fileStages};
-ghost use Rattle.alone.specs.Sound.{SoundFiles};
+ghost use Rattle.alone.specs.Sound.{SweptFiles};
 
 // Whether the files 2-13 have none of 1 to 6, each read once.
 fn are_sound<'a>(
@@ -31,7 +31,7 @@ fn are_sound<'a>(
     f12: &'a [u8],
     f13: &'a [u8],
 ) -> bool
-    ensures { λ r. ⌜ (r ≡ true → SoundFiles (thirteen (now (f1 .entry)) (now (f2 .entry)) (now (f3 .entry)) (now (f4 .entry)) (now (f5 .entry)) (now (f6 .entry)) (now (f7 .entry)) (now (f8 .entry)) (now (f9 .entry)) (now (f10 .entry)) (now (f11 .entry)) (now (f12 .entry)) (now (f13 .entry)))) ⌝ }
+    ensures { λ r. ⌜ (r ≡ true → SweptFiles (thirteen (now (f1 .entry)) (now (f2 .entry)) (now (f3 .entry)) (now (f4 .entry)) (now (f5 .entry)) (now (f6 .entry)) (now (f7 .entry)) (now (f8 .entry)) (now (f9 .entry)) (now (f10 .entry)) (now (f11 .entry)) (now (f12 .entry)) (now (f13 .entry)))) ⌝ }
 {
     let mut file: u64 = 13;
     while file > 1 {

@@ -1,5 +1,5 @@
 -- What the stage of keys, links and signs asks of a batch: its files 2-13 are legal, and neither 5 nor 6 is found in them.
-use Prim.Native.Nat.{ℕ, _+_, _≤_, _<_}
+use Prim.Native.Nat.{ℕ, _≤_, _<_}
 use mathlib.Core.Path.{_≡_}
 use mathlib.Core.Bool.{Bool, true}
 use mathlib.Core.List.{List, [], _∷_}

@@ -1,18 +1,14 @@
 -- Behind 6 the records are asked: 7, 8 and 9 come first, and where they find nothing no two records have one key, so that trips count.
 use mathlib.Core.Path.{_≡_, sym, ap, _∙_}
 use mathlib.Core.Bool.{Bool, true, false, not}
-use mathlib.Core.List.{List, [], _∷_}
+use mathlib.Core.List.{List, []}
 use Prim.Native.Nat.{ℕ, _≤_}
 use native.Mathlib.Omega.{arith}
 use borrow.Author.Tests.{eq-eqb, ne-eqb}
 use lib.Dec.{eqb}
 use lib.ListN.{length, drop}
-use Rattle.laws.specs.Tests.{pick}
 use Rattle.laws.specs.Numbered.{Numbered, answered}
-use Rattle.file.specs.Files.{fieldsOf}
-use Rattle.file.specs.Records.{recordsIn}
 use Rattle.lookup.specs.Ways.{Ways}
-use Rattle.link.specs.Met.{Linking}
 use Rattle.link.specs.Stage.{linksFault}
 use Rattle.link.proofs.LinkingLaws.{linked}
 use Rattle.thirteen.specs.Batch.{Batch, fileIn, recordsOf}

@@ -2,7 +2,6 @@
 -- A date that isn't real and a day past 73048 are refusal 12, whatever else was asked.
 use Prim.Native.Nat.{ℕ}
 use mathlib.Core.Path.{_≡_}
-use mathlib.Core.Bool.{Bool}
 use mathlib.Core.List.{List, [], _∷_}
 use Rattle.laws.specs.Tests.{pick, bit}
 use Rattle.laws.specs.Numbered.{Numbered, answered, refused}

@@ -1,9 +1,9 @@
 -- The last text of a record ends three bytes before the LF of its line: from where it starts, that LF is the next, since none stands in a text.
 use mathlib.Core.Path.{_≡_, _∙_}
-use Prim.Native.Nat.{ℕ, _+_, _-_, _<_}
+use Prim.Native.Nat.{ℕ, _+_, _-_}
 use native.Mathlib.Omega.{arith}
 use mathlib.Core.List.{List}
-use lib.ListN.{length, drop, length-drop}
+use lib.ListN.{drop, length-drop}
 use Rattle.walk.specs.Walk.{LegalFrom, RecordAt}
 use Rattle.walk.proofs.StartLaws.{textStart}
 use Rattle.walk.proofs.WalkLaws.{firstRecord, text-at, end-at}

@@ -18,8 +18,8 @@ ghost use Rattle.link.specs.Signs.{signIn, codesFile};
 ghost use Rattle.rules.specs.Texts.{texts, Kinded};
 ghost use Rattle.coded.specs.Ready.{Ready};
 
-// inner: the sign of a code number; 0 if no record has it
-pub fn sign_in(c: u64, f3: &[u8], order: &[u32], ways: &[usize], class: &[u8; 256]) -> u8
+// The sign of a code number; 0 if no record has it.
+fn sign_in(c: u64, f3: &[u8], order: &[u32], ways: &[usize], class: &[u8; 256]) -> u8
     requires { ⌜ (c < none) × Ready codesFile (now f3) (now order) (now ways) × Classes (now class) ⌝ }
     ensures { λ r. ⌜ r ≡ signIn (recordsIn (fieldsOf codesFile) (now (f3 .entry))) c ⌝ }
 {

@@ -6,70 +6,22 @@ use mathlib.Core.List.{List, [], _∷_}
 use Prim.Native.Nat.{ℕ, zero, suc, _+_, _-_, _*_, _≤_, _<_}
 use native.Mathlib.Omega.{arith}
 use lib.Dec.{eqb, leb}
-use lib.ListN.{length, getD, set, replicate, length-set, getD-replicate, List·getD-eq-default}
+use lib.ListN.{length, getD, set, replicate, length-set, getD-replicate}
 use lib.Seq.{getD-set-same, getD-set-other}
-use borrow.Author.Tests.{eq-eqb, ne-eqb, eqb-true, eqb-false, leb-true, leb-false}
+use borrow.Author.Tests.{eq-eqb, ne-eqb, eqb-true, eqb-false, leb-true}
 use Rattle.laws.specs.Tests.{pick, both, oneOf, either, never, clash, both-left, both-right}
 use Rattle.dates.specs.Dates.{within}
 use Rattle.file.specs.Format.{Text, Fields}
-use Rattle.field.specs.Values.{isEmpty, given, isByte, among, isDigit, allDigits, isDigits, valueFrom, value}
+use Rattle.field.specs.Values.{given, isDigit, allDigits, isDigits, valueFrom, value}
 use Rattle.field.specs.Names.{timeCodesFile, mark, codeType, codeFrom, codeTo}
 use Rattle.field.specs.Rules.{isTimeMark, isNoteMark, markRule, closes, datesRule, timeCodeRule, meets}
-use Rattle.field.specs.Kinds.{kinds, caskody, kindOf, admits}
-use Rattle.field.specs.Stage.{firstUnkind}
 use Rattle.field.proofs.ValueLaws.{digits-are, digit-bounds}
 use Rattle.keys.specs.Keys.{same}
 use Rattle.link.specs.Signs.{firstByte}
 use Rattle.link.proofs.HasLaws.{same-self, same-equal}
-use Rattle.rules.proofs.KindLaws.{kind-at}
 use Rattle.trail.specs.Lists.{some}
 use Rattle.trip.specs.Days.{typeOf, hasType, holdsDay, holds, otherMark, twoMarks}
 use Rattle.codes.specs.Seen.{Flags, Seen, Held, seenBehind, heldBehind, firstMark, differsFrom, marksDiffer, AllMeet}
-
--- THE TYPE.
--- a text that is one of these bytes starts with a byte of the same bound
-Under : ℕ → List ℕ → Type 0
-Under n [] = Unit
-Under n (b ∷ bs) = (b ≤ n) × Under n bs
-
-byte-first : (b : ℕ) (t : Text) → isByte b t ≡ true → firstByte t ≡ b
-unfolding isByte firstByte
-byte-first b [] e = never e
-byte-first b (x ∷ []) e = eqb-true x b e
-byte-first b (x ∷ y ∷ t) e = never e
-
-among-first : (n : ℕ) (bs : List ℕ) (t : Text) → Under n bs → among bs t ≡ true → firstByte t ≤ n
-unfolding Under among
-among-first n [] t u e = never e
-among-first n (b ∷ bs) t u e =
-    either (isByte b t)
-    (λ p. omega (arith, byte-first b t p, u .0))
-    (λ p. among-first n bs t (u .1) (rw p at e))
-
-no-type : (t : Text) → length t ≡ 0 → firstByte t - 48 ≤ 8
-unfolding firstByte
-no-type [] z = omega arith
-no-type (x ∷ t) z = absurd (omega arith)
-
-kind-typed : (t : Text) → admits (kindOf timeCodesFile 5) t ≡ true → firstByte t - 48 ≤ 8
-unfolding kindOf kinds caskody admits Under
-kind-typed t a =
-    either (isEmpty t)
-    (λ p. no-type t (eqb-true (length t) 0 p))
-    (λ p.
-    let u : Under 56 (49 ∷ 50 ∷ 51 ∷ 52 ∷ 53 ∷ 54 ∷ 55 ∷ 56 ∷ []) =
-    (omega arith, (omega arith, (omega arith, (omega arith, (omega arith, (omega arith, (omega arith, (omega arith, tt)))))))) in
-    omega (arith, among-first 56 (49 ∷ 50 ∷ 51 ∷ 52 ∷ 53 ∷ 54 ∷ 55 ∷ 56 ∷ []) t u (rw p at a)))
-
--- the type of a record of kinds is 8 at most
-pub kinds-typed : (r : Fields) → firstUnkind timeCodesFile 1 r ≡ 0 → typeOf r ≤ 8
-unfolding typeOf
-kinds-typed r e =
-    either (leb 5 (length r))
-    (λ p. kind-typed (codeType r) (kind-at timeCodesFile r e 5 (omega arith) (leb-true 5 (length r) p)))
-    (λ p.
-    let z : codeType r ≡ [] = List·getD-eq-default r [] (omega (arith, leb-false 5 (length r) p)) in
-    no-type (codeType r) (ap (λ (t : Text). length t) z))
 
 -- THE LIST.
 -- a place of the list when place i has been set

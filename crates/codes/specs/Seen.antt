@@ -1,14 +1,14 @@
 -- How the code goes about a trip's time codes: one pass, in which place t of a lent list is set when a record of type t comes, and the value of the
 -- first typed record's mark is kept. Nothing here needs to be believed: what the list and the marks come to is proved to be `hasType`, `holds` and `twoMarks`.
-use Prim.Native.Nat.{ℕ, _+_, _≤_}
+use Prim.Native.Nat.{ℕ, _≤_}
 use mathlib.Core.Path.{_≡_}
 use mathlib.Core.List.{List, [], _∷_}
-use mathlib.Core.Bool.{Bool, true, false, not}
+use mathlib.Core.Bool.{Bool, true, not}
 use lib.Dec.{eqb}
 use lib.ListN.{getD, length, set}
 use Rattle.laws.specs.Tests.{pick, both, oneOf, bit}
 use Rattle.file.specs.Format.{Fields}
-use Rattle.field.specs.Names.{mark, timeCodesFile}
+use Rattle.field.specs.Names.{mark}
 use Rattle.field.specs.Rules.{meets}
 use Rattle.field.specs.Values.{value}
 use Rattle.trip.specs.Days.{typeOf, hasType, holdsDay, holds}

@@ -23,7 +23,6 @@ use Rattle.trip.specs.Stops.{
   departs,
   timed,
   passes,
-  passesIn,
   blank,
   firstFits,
   placeFits,

@@ -8,8 +8,8 @@ ghost use Rattle.dates.specs.Dates.{leap, yearDays, monthDays, isDate, y
 // The days of the months; 0 stands before the first.
 const DAYS: [u64; 13] = [0, 31, 28, 31, 30, 31, 30, 31, 31, 30, 31, 30, 31];
 
-// inner
-pub fn leap_year(year: u64) -> bool
+// Whether it is a leap year.
+fn leap_year(year: u64) -> bool
     ensures { λ r. ⌜ r ≡ leap year ⌝ }
 {
     if year % 400 == 0 {
@@ -28,8 +28,8 @@ pub fn year_days(year: u64) -> u64
     if leap_year(year) { 366 } else { 365 }
 }
 
-// inner: the days of a month, 0 where it is none
-pub fn month_days(year: u64, month: u64) -> u64
+// The days of a month; 0 where it is none.
+fn month_days(year: u64, month: u64) -> u64
     ensures { λ r. ⌜ r ≡ monthDays year month ⌝ }
 {
     if month == 2 {

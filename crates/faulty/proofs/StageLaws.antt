@@ -3,12 +3,11 @@
 use mathlib.Core.Path.{_≡_, refl, sym, ap, subst, _∙_}
 use mathlib.Core.Bool.{Bool, true, false}
 use mathlib.Core.List.{List, [], _∷_, _++_, append-assoc}
-use Prim.Native.Nat.{ℕ, zero, suc, _+_, _-_, _≤_, _<_}
+use Prim.Native.Nat.{ℕ, _+_, _-_, _≤_, _<_}
 use native.Mathlib.Omega.{arith}
-use lib.Dec.{eqb, ltb, leb, leb→le}
-use lib.ListN.{length, getD, drop, replicate, List·getD-eq-default}
+use lib.Dec.{eqb, ltb}
+use lib.ListN.{length, drop, replicate, List·getD-eq-default}
 use borrow.Author.Tests.{eqb-true, eqb-false, eq-eqb, ne-eqb, ltb-true, ltb-false}
-use Rattle.laws.specs.Below.{below}
 use Rattle.laws.specs.Tests.{pick, either, never}
 use Rattle.laws.specs.Numbered.{Numbered, answered, refusedIn}
 use Rattle.file.specs.Files.{fieldCounts, fieldsOf}
@@ -16,18 +15,16 @@ use Rattle.file.specs.Format.{Fields, written}
 use Rattle.file.specs.Records.{recordsIn}
 use Rattle.file.specs.Reader.{Classes}
 use Rattle.walk.specs.Walk.{LegalFrom, RecordAt, Cuts}
-use Rattle.walk.proofs.WalkLaws.{cut-size, cut-first, none-left}
+use Rattle.walk.proofs.WalkLaws.{cut-first, none-left}
 use Rattle.rules.specs.Texts.{texts}
 use Rattle.lines.proofs.LineLaws.{cut-next, place-start, size-append, size-one}
 use Rattle.keys.specs.Keys.{keyTable, keyFields, keyOf, numbers, has}
 use Rattle.keys.specs.Ranks.{IsKeyed, recordAt}
 use Rattle.keys.specs.KeyFiles.{PlaceIn}
 use Rattle.keys.proofs.TableLaws.{one-of, key-fields}
-use Rattle.link.proofs.MatchLaws.{free-behind, links-few}
-use Rattle.amiss.proofs.AmissLaws.{free-amiss}
-use Rattle.link.specs.Links.{linksIn, links, zaslinky, linkOf, target, linkFields, reaches, met}
+use Rattle.link.specs.Links.{links, zaslinky, linkOf, target, linkFields, reaches, met}
 use Rattle.link.specs.Signs.{signStands}
-use Rattle.link.specs.Stage.{isUsed, amiss, firstAmiss, fieldAmiss, recordFault, faultsFrom, linkFault, linksFault}
+use Rattle.link.specs.Stage.{isUsed, amiss, fieldAmiss, recordFault, faultsFrom, linkFault, linksFault}
 use Rattle.link.proofs.FaultLaws.{file-clean, file-settled, first-wrong}
 use Rattle.link.proofs.TableLaws.{record-length}
 use Rattle.find.specs.Find.{Serves}

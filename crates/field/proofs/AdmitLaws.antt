@@ -1,10 +1,10 @@
--- What the kind of a field says of a text that it admits; a field that may be empty says it of a text that is given.
+-- What the kind of a field that may be empty says of a text that it admits and that is given.
 use mathlib.Core.Path.{_≡_, refl}
 use mathlib.Core.Bool.{Bool, true, false, not}
 use Prim.Native.Nat.{ℕ}
 use Rattle.laws.specs.Tests.{oneOf, never}
 use Rattle.file.specs.Format.{Text}
-use Rattle.field.specs.Values.{isEmpty, given, isDigits, isDateText}
+use Rattle.field.specs.Values.{isEmpty, given, isDigits}
 use Rattle.field.specs.Kinds.{admits}
 use Rattle.field.specs.declared.Kind.{Kind}
 
@@ -17,18 +17,6 @@ other : (a b : Bool) → oneOf a b ≡ true → not a ≡ true → b ≡ true
 other true b e h = never h
 other false b e h = e
 
-pub admitted-digits : (a b : ℕ) (t : Text) → admits (Kind.Digits a b) t ≡ true → isDigits a b t ≡ true
-unfolding admits
-admitted-digits a b t e = e
-
 pub given-digits : (a b : ℕ) (t : Text) → admits (Kind.MaybeDigits a b) t ≡ true → given t ≡ true → isDigits a b t ≡ true
 unfolding admits
 given-digits a b t e h = other (isEmpty t) (isDigits a b t) e h
-
-pub admitted-date : (t : Text) → admits Kind.Date t ≡ true → isDateText t ≡ true
-unfolding admits
-admitted-date t e = e
-
-pub given-date : (t : Text) → admits Kind.MaybeDate t ≡ true → given t ≡ true → isDateText t ≡ true
-unfolding admits
-given-date t e h = other (isEmpty t) (isDateText t) e h

@@ -13,9 +13,8 @@ use lib.Seq.{drop-cons}
 use borrow.Author.Tests.{leb-true, le-leb, lt-leb}
 use Rattle.laws.specs.Tests.{both, never, both-left, both-right, both-false}
 use Rattle.dates.specs.Dates.{isDate}
-use Rattle.dates.specs.Real.{real, number-day}
 use Rattle.file.specs.Format.{Text}
-use Rattle.field.specs.Values.{isByte, among, isDigit, allDigits, isDigits, valueFrom, value, isDateText, dayPart, monthPart, yearPart, dayOfText, isTime, hourPart, minutePart, minuteOf}
+use Rattle.field.specs.Values.{isByte, among, isDigit, allDigits, isDigits, valueFrom, value, isDateText, dayPart, monthPart, yearPart, isTime, hourPart, minutePart, minuteOf}
 
 -- a text of one byte is that byte, and no other text is
 pub byte-other : (t : Text) (b : ℕ) → (length t ≡ 1 → ⊥) → isByte b t ≡ false
@@ -174,11 +173,6 @@ module _ (t : Text) where
   pub date-real : isDateText t ≡ true → isDate (dayPart t) (monthPart t) (yearPart t) ≡ true
   unfolding isDateText
   date-real e = both-right (isDigits 8 8 t) (isDate (dayPart t) (monthPart t) (yearPart t)) e
-
-  -- its day is one of the calendar
-  pub day-bound : isDateText t ≡ true → dayOfText t ≤ 73048
-  unfolding dayOfText
-  day-bound e = number-day _ _ _ (real _ _ _ (date-real e))
 
 -- and a time of its own
 module _ (t : Text) where

@@ -2,11 +2,11 @@
 -- requires only under a condition is optional here; its condition stands in the rules.
 use Prim.Native.Nat.{ℕ}
 use mathlib.Core.List.{List, [], _∷_, _++_}
-use mathlib.Core.Bool.{Bool, true, false}
+use mathlib.Core.Bool.{Bool, false}
 use lib.ListN.{getD, replicate}
 use Rattle.laws.specs.Tests.{oneOf}
 use Rattle.file.specs.Format.{Text}
-use Rattle.field.specs.Values.{isEmpty, among, isByte, sized, isDigits, isDateText, isTime}
+use Rattle.field.specs.Values.{isEmpty, among, sized, isDigits, isDateText, isTime}
 use Rattle.field.specs.declared.Kind.{Kind}
 
 -- number: 1-9 digits; code number: 1-5 digits (where a record names a code, it may be empty); line: 6 digits; IČO: 8

@@ -1,7 +1,7 @@
 -- Document 01, "Rules inside one record (refusal 6)", in its order. A record is tried for them only if all its fields are of their
 -- kinds.
 use Prim.Native.Nat.{ℕ, zero, suc, _+_}
-use mathlib.Core.List.{List, [], _∷_}
+use mathlib.Core.List.{[], _∷_}
 use mathlib.Core.Bool.{Bool, true, false, not}
 use lib.Dec.{eqb, leb}
 use Rattle.laws.specs.Tests.{pick, both, oneOf}

@@ -1,6 +1,6 @@
 -- Document 01's batch order, "then 5 and 6": record by record, fields before 6. The first fault of one of the files 2-13; file 1 has
 -- no kinds, and is not asked.
-use Prim.Native.Nat.{ℕ, suc, _+_}
+use Prim.Native.Nat.{ℕ, _+_}
 use mathlib.Core.List.{List, [], _∷_}
 use lib.Dec.{eqb}
 use Rattle.laws.specs.Tests.{pick}

@@ -2,7 +2,6 @@
 // kind stands in the crate `kinds`.
 mod values;
 
-pub use values::all_digits;
 pub use values::day_of;
 pub use values::is_byte;
 pub use values::is_date;

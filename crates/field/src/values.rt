@@ -36,8 +36,8 @@ pub fn is_one_of(t: &[u8], set: &[u8]) -> bool
     false
 }
 
-// inner
-pub fn all_digits(t: &[u8]) -> bool
+// Whether every byte is a digit.
+fn all_digits(t: &[u8]) -> bool
     ensures { λ r. ⌜ r ≡ allDigits (now (t .entry)) ⌝ }
 {
     let mut i = 0;

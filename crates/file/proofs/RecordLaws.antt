@@ -1,6 +1,6 @@
 -- The records of a file are the list that the reader gives for it; so those of a writing are the list that was written.
 use mathlib.Core.Path.{_≡_, refl, sym, ap, _∙_}
-use mathlib.Core.List.{List, [], _∷_}
+use mathlib.Core.List.{List, []}
 use Prim.Native.Nat.{ℕ, zero, suc, _+_, _≤_, _<_}
 use native.Mathlib.Omega.{arith}
 use lib.ListN.{length, getD}
@@ -8,7 +8,6 @@ use lib.Seq.{ext-getD}
 use Rattle.file.specs.Format.{Text, Fields, written, Permitted}
 use Rattle.file.specs.Places.{Gives}
 use Rattle.file.specs.Reader.{Reads}
-use Rattle.file.specs.Reading.{reading}
 use Rattle.file.specs.Records.{upTo, textAt, recordsBy, recordsIn}
 use Rattle.file.specs.declared.Outcome.the-variants.{Whole}
 use Rattle.file.proofs.Demand3.{read-is-written, whole-legal}

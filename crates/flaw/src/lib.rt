@@ -27,8 +27,8 @@ ghost use Rattle.lookup.specs.Ways.{Lasts};
 ghost use Rattle.thirteen.specs.Batch.{thirteen};
 ghost use Rattle.amiss.specs.Sound.{Known, Record};
 
-// inner: the sign of a code number, that of the first Pevnykod record that has it; 0 if none has
-pub fn sign_of<'a>(
+// The sign of a code number, that of the first Pevnykod record that has it; 0 if none has.
+fn sign_of<'a>(
     c: u64,
     file: u64,
     class: &[u8; 256],

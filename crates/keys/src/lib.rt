@@ -1,7 +1,7 @@
 // A record's key: document 01, "The batch". Keys compare numbers by value. All of it is inner: what each function means is its definition
 // in specs/Ranks.antt.
 ghost use mathlib.Core.Path.{_≡_};
-ghost use Prim.Native.Nat.{_+_, _*_, _≤_, _<_};
+ghost use Prim.Native.Nat.{_≤_, _<_};
 ghost use lib.Dec.{ltb, eqb};
 ghost use lib.ListN.{length, drop};
 ghost use Rattle.keys.specs.Keys.{none};

@@ -223,10 +223,6 @@ next-line n s at p h r e =
 pub next-at : (n : ℕ) (s : List ℕ) (at : ℕ) → Place n s at → at < length s → Next n s at (firstRecord n s at) (behind s at)
 next-at n s at p h = next-line n s at p h (behind s at) refl
 
--- the record that a walk comes by is the first from there on
-pub next-first : (n : ℕ) (s : List ℕ) (at : ℕ) (r : Fields) (next : ℕ) → Next n s at r next → firstRecord n s at ≡ r
-next-first n s at r next x = rw (x .rest)
-
 -- a record that was cut, and the place behind it
 pub cut-next : (n : ℕ) (s : List ℕ) (at : ℕ) (old places : List ℕ) (next : ℕ) → Place n s at → Cuts n s at old places next
     → Next n s at (cutRecord n s places) next

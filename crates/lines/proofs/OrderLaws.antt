@@ -275,11 +275,7 @@ module _ (n : ℕ) (rank : Fields → ℕ) where
   unfolding risesAfter
   rises-end s at x h = rw (none-left n s at h)
 
-  -- behind a record ranks rise on, and so they do from every place of a file whose ranks rise
-  pub rest-rising : (s : List ℕ) (at : ℕ) (r : Fields) (next : ℕ) → Rising rank (recordsIn n (drop at s)) → Next n s at r next
-      → Rising rank (recordsIn n (drop next s))
-  rest-rising s at r next up w = tail-rising rank (r ∷ []) (recordsIn n (drop next s)) (rw (w .rest) at up)
-
+  -- ranks rise from every place of a file whose ranks rise
   pub place-rising : (s : List ℕ) (at : ℕ) → Rising rank (recordsIn n s) → Place n s at → Rising rank (recordsIn n (drop at s))
   place-rising s at up p = tail-rising rank (p .past) (recordsIn n (drop at s)) (rw (p .whole) at up)
 

@@ -27,7 +27,6 @@ use Rattle.link.specs.Links.{
   mistenky,
   links,
   linkOf,
-  met,
 }
 use Rattle.link.specs.Stage.{isUsed, linksFault}
 use Rattle.link.specs.Met.{Stands, Distinct, ToCodes, Linking}

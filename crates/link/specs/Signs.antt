@@ -6,7 +6,7 @@ use lib.Dec.{eqb}
 use lib.ListN.{getD}
 use Rattle.laws.specs.Tests.{pick, both, oneOf}
 use Rattle.file.specs.Format.{Text, Fields}
-use Rattle.field.specs.Values.{isEmpty, given, value}
+use Rattle.field.specs.Values.{isEmpty, value}
 use Rattle.field.specs.Names.{field, tripStopsFile}
 use Rattle.keys.specs.Keys.{keyOf, same}
 use Rattle.thirteen.specs.Batch.{Batch, recordsOf}

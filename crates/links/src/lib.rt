@@ -6,7 +6,6 @@ use fitting::all_fit;
 use fitting::all_met;
 use link::Linked;
 ghost use mathlib.Core.Path.{_≡_};
-ghost use mathlib.Core.Bool.{true};
 ghost use Prim.Native.Nat.{_≤_};
 ghost use lib.Dec.{eqb};
 ghost use lib.ListN.{length};

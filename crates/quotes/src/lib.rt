@@ -1,10 +1,8 @@
 // Where a text stops: its plain bytes are skipped by their class, and at a quote it is seen whether a field ends there.
 ghost use mathlib.Core.Path.{_≡_};
-ghost use mathlib.Core.List.{_∷_};
-ghost use Prim.Native.Nat.{ℕ, _+_, _≤_, _<_};
-ghost use lib.ListN.{length, drop, getD};
-ghost use Rattle.file.specs.Bytes.{ends, goes, closes, plainRun, classOf, matched, quote, permittedText};
-ghost use Rattle.file.specs.Format.{ending};
+ghost use Prim.Native.Nat.{_≤_, _<_};
+ghost use lib.ListN.{length, drop};
+ghost use Rattle.file.specs.Bytes.{ends, goes, closes, plainRun, permittedText};
 ghost use Rattle.file.specs.Reader.{Classes, Reached};
 
 fn wide(b: u8) -> usize

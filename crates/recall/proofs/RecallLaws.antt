@@ -1,16 +1,13 @@
 -- The table of tags: what stands in it is so, and a tag that was found to be so may be put into it.
 use mathlib.Core.Path.{_≡_, refl, sym, subst, _∙_}
-use mathlib.Core.Bool.{true}
 use mathlib.Core.List.{List}
 use Prim.Native.Nat.{ℕ, zero, suc, _≤_, _<_}
 use native.Mathlib.Omega.{arith}
 use native.Mathlib.Decide.{ℕ-discrete}
-use lib.Dec.{eqb}
 use lib.ListN.{length, getD, set, replicate, length-set}
 use lib.Seq.{getD-set-same, getD-set-other}
 use borrow.Author.Tests.{eqb-true, eq-eqb}
 use Rattle.file.specs.Format.{Fields}
-use Rattle.keys.specs.Keys.{none}
 use Rattle.link.specs.Stage.{amiss}
 use Rattle.thirteen.specs.Batch.{Batch}
 use Rattle.tags.specs.Tags.{fine, Tagged}

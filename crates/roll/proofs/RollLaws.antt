@@ -1,14 +1,13 @@
 -- From trip to trip of Spoje: what is left of its records where the walk stands.
 use mathlib.Core.Path.{_≡_, refl, sym, ap, subst, _∙_}
-use mathlib.Core.List.{List, [], _∷_}
-use Prim.Native.Nat.{ℕ, zero, suc, _+_, _-_, _≤_, _<_}
+use mathlib.Core.List.{List, []}
+use Prim.Native.Nat.{ℕ, _+_, _-_, _≤_, _<_}
 use native.Mathlib.Omega.{arith}
 use lib.ListN.{length, drop, drop-of-length-le}
 use lib.Seq.{drop-drop}
 use Rattle.file.specs.Files.{fieldsOf}
-use Rattle.file.specs.Format.{Fields}
 use Rattle.file.specs.Records.{recordsIn}
-use Rattle.keys.specs.KeyFiles.{PlaceIn, recordsFrom}
+use Rattle.keys.specs.KeyFiles.{recordsFrom}
 use Rattle.lines.specs.Lines.{behind}
 use Rattle.lines.proofs.LineLaws.{place-start, next-line, none-at}
 use Rattle.walk.specs.Walk.{LegalFrom}

@@ -39,8 +39,8 @@ pub fn is_day_sign(sign: u8) -> bool
     sign <= b'7'
 }
 
-// inner: Monday to Friday and no holiday
-pub fn is_workday(number: u64, holidays: &[u64]) -> bool
+// Monday to Friday and no holiday.
+fn is_workday(number: u64, holidays: &[u64]) -> bool
     ensures { λ r. ⌜ r ≡ isWorkday number (now (holidays .entry)) ⌝ }
 {
     if weeks::weekday(number) > 5 {
@@ -49,8 +49,8 @@ pub fn is_workday(number: u64, holidays: &[u64]) -> bool
     !is_holiday(number, holidays)
 }
 
-// inner: Sunday or holiday
-pub fn is_restday(number: u64, holidays: &[u64]) -> bool
+// Sunday or holiday.
+fn is_restday(number: u64, holidays: &[u64]) -> bool
     ensures { λ r. ⌜ r ≡ isRestday number (now (holidays .entry)) ⌝ }
 {
     if weeks::weekday(number) == 7 {

@@ -1,5 +1,5 @@
 -- The sale question on a line's own view: document 01, "Numbers a call can come back with", 12 to 19, and "A sale is asked by ..".
-use Prim.Native.Nat.{ℕ, zero, suc}
+use Prim.Native.Nat.{ℕ, suc}
 use mathlib.Core.Bool.{Bool, not}
 use mathlib.Core.List.{List, [], _∷_}
 use lib.Dec.{eqb, ltb}

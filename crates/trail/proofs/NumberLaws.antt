@@ -1,15 +1,15 @@
 -- The third number of the key of a record that was cut: it is the value of its third text.
-use mathlib.Core.Path.{_≡_, refl, sym, ap, _∙_}
+use mathlib.Core.Path.{_≡_, sym, ap, _∙_}
 use mathlib.Core.Bool.{true}
 use mathlib.Core.List.{List, [], _∷_}
 use Prim.Native.Nat.{ℕ, _≤_, _<_}
 use native.Mathlib.Omega.{arith}
-use lib.ListN.{length, getD}
+use lib.ListN.{length}
 use Rattle.file.specs.Files.{fieldsOf}
 use Rattle.file.specs.Format.{Text, Fields}
 use Rattle.field.specs.Names.{field}
 use Rattle.field.specs.Values.{allDigits, value}
-use Rattle.keys.specs.Keys.{keyFields, keyOf, numbers, third, none}
+use Rattle.keys.specs.Keys.{keyFields, numbers, third, none}
 use Rattle.keys.specs.Ranks.{IsKeyed, Numbers}
 use Rattle.find.proofs.TripLaws.{three-fields}
 use Rattle.link.proofs.KindOfLinks.{keyed-kinds, keyed-numeric, digits-small}

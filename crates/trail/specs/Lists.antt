@@ -1,7 +1,7 @@
 -- Lists of records, or of records with something beside them: those that pass a test, the first that does, by rising number, and backward.
 use Prim.Native.Nat.{ℕ, suc, _%_}
 use mathlib.Core.List.{List, [], _∷_, _++_}
-use mathlib.Core.Bool.{Bool, true, false}
+use mathlib.Core.Bool.{Bool, false}
 use lib.Dec.{eqb, leb}
 use Rattle.laws.specs.Tests.{pick, oneOf}
 

@@ -14,7 +14,7 @@ use Rattle.walk.specs.declared.Found.{Found}
 use Rattle.walk.specs.declared.Found.the-variants.{At, Nothing}
 use Rattle.lines.specs.Lines.{behind}
 use Rattle.keys.specs.Keys.{keyFields, keyOf, has, ofTrip, third, none, nextOf}
-use Rattle.keys.specs.KeyFiles.{KeyFile, PlaceIn}
+use Rattle.keys.specs.KeyFiles.{PlaceIn}
 use Rattle.keys.specs.Ranks.{recordAt}
 use Rattle.lookup.specs.Ways.{Way, howOf, fromOf, toOf}
 use Rattle.previous.specs.Previous.{previousOf}

@@ -28,7 +28,6 @@ use Rattle.trip.specs.Days.{
   holds,
   otherMark,
   twoMarks,
-  hasDaySign,
   signsAllow,
   weekAllows,
   weekAllowsIn,

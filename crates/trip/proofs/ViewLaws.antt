@@ -239,17 +239,6 @@ view-trip-found b line trip p l d r e =
     ∙ sym (first-found 6 (fileIn b 6) (line ∷ trip ∷ []) p l d)
     ∙ sym (first-same [] (λ q. both (eqb (number 1 q) line) (eqb (number 2 q) trip)) (λ q. same (keyOf 6 q) (line ∷ trip ∷ [])) (found-fields line trip) (recordsOf b 6)))
 
--- a Zaslinky record that is found by its line and tariff number is the view's stop of that number, with its signs
-pub view-line-stop-found : (b : Batch) (line tariff p : ℕ) → LegalFrom (fieldsOf 7) (fileIn b 7) 0
-    → firstWith 7 (line ∷ tariff ∷ []) 0 (recordsOf b 7) ≡ At p → (r : Fields) → r ≡ recordAt 7 (fileIn b 7) p
-    → lineStopOf (viewOf b line) tariff ≡ record { texts = r; signs = lineStopSigns b r }
-unfolding keyFields keyTable
-view-line-stop-found b line tariff p l d r e =
-    view-line-stop b line tariff r
-    (e
-    ∙ sym (first-found 7 (fileIn b 7) (line ∷ tariff ∷ []) p l d)
-    ∙ sym (first-same [] (λ q. both (eqb (number 1 q) line) (eqb (number 2 q) tariff)) (λ q. same (keyOf 7 q) (line ∷ tariff ∷ [])) (found-fields line tariff) (recordsOf b 7)))
-
 -- the key of a Spoje record
 same-fields : (q r : Fields) → both (eqb (number 1 q) (number 1 r)) (eqb (number 2 q) (number 2 r)) ≡ same (keyOf 6 q) (keyOf 6 r)
 unfolding keyFields keyTable numbers same

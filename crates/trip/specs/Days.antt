@@ -1,8 +1,8 @@
 -- Document 01, "Days": a trip's time codes (its Caskody records), refusal 10, and when a trip runs.
-use Prim.Native.Nat.{ℕ, _+_, _-_}
+use Prim.Native.Nat.{ℕ, _-_}
 use mathlib.Core.List.{List, [], _∷_}
-use mathlib.Core.Bool.{Bool, true, false, not}
-use lib.Dec.{eqb, leb}
+use mathlib.Core.Bool.{Bool, false, not}
+use lib.Dec.{eqb}
 use Rattle.laws.specs.Tests.{pick, both, oneOf}
 use Rattle.dates.specs.Dates.{within}
 use Rattle.signs.specs.Signs.{isDaySign, signFits}

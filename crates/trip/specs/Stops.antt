@@ -1,5 +1,5 @@
 -- Document 01, "A trip's stops": refusal 11, over a trip's Zasspoje records in travel order, and a stop's minutes.
-use Prim.Native.Nat.{ℕ, _+_}
+use Prim.Native.Nat.{ℕ}
 use mathlib.Core.List.{List, [], _∷_}
 use mathlib.Core.Bool.{Bool, true, false, not}
 use lib.Dec.{eqb, leb}

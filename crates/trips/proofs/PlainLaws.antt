@@ -1,12 +1,11 @@
 -- The stage as the code goes about it finds what document 01 says: where no two trips have one key, each record of Spoje is its line's trip of its
 -- number.
 use mathlib.Core.Path.{_≡_, refl, sym, ap, _∙_}
-use mathlib.Core.Bool.{Bool, true}
+use mathlib.Core.Bool.{Bool}
 use mathlib.Core.List.{List, [], _∷_, _++_}
 use Prim.Native.Nat.{ℕ, _+_}
-use lib.Dec.{eqb}
-use Rattle.laws.specs.Tests.{pick, both}
-use Rattle.laws.specs.Numbered.{Numbered, refusedIn}
+use Rattle.laws.specs.Tests.{both}
+use Rattle.laws.specs.Numbered.{Numbered}
 use Rattle.file.specs.Files.{fieldsOf}
 use Rattle.file.specs.Format.{Fields}
 use Rattle.walk.specs.Walk.{LegalFrom}

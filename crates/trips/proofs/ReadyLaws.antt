@@ -1,6 +1,5 @@
 -- What is asked of a file of a batch is known once its files stand each for itself, no two records of it have one key, and the ways were made out.
 use mathlib.Core.Path.{_≡_, ap}
-use mathlib.Core.Bool.{true}
 use mathlib.Core.List.{List, [], _∷_}
 use Prim.Native.Nat.{ℕ, _+_, _≤_}
 use native.Mathlib.Omega.{arith}
@@ -12,7 +11,7 @@ use Rattle.file.specs.Format.{Fields}
 use Rattle.field.specs.Rules.{meets}
 use Rattle.field.specs.Stage.{firstUnkind, recordFault, faultsFrom}
 use Rattle.keys.specs.Ranks.{IsKeyed}
-use Rattle.link.specs.Met.{Distinct, Linking}
+use Rattle.link.specs.Met.{Distinct}
 use Rattle.lookup.specs.Ways.{Ways}
 use Rattle.thirteen.specs.Batch.{Batch, fileIn, recordsOf}
 use Rattle.amiss.specs.Sound.{SoundFile, SoundFiles}

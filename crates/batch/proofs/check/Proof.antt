@@ -1,7 +1,6 @@
 -- `batch::check` meets its contract: what was found is the verdict.
 use borrow.Author.Needs.{needs}
-use denote.Ref.{now}
-use Rattle.thirteen.specs.Batch.{Batch, thirteen, fileIn}
+use Rattle.thirteen.specs.Batch.{fileIn}
 use Rattle.batch.proofs.VerdictLaws.{refused, countable, accepted}
 use Rattle.batch.proofs.check.Statement.{statement}
 use Rattle.batch.proofs.check.Tie as tie

@@ -1,11 +1,10 @@
 -- `batch::check_in_order` meets its contract: 1 to 6 come first, and where they find nothing the files are sound, so that the ways can be made out and
 -- the records asked.
-use mathlib.Core.Path.{_≡_, sym, ap, _∙_}
-use mathlib.Core.List.{[]}
+use mathlib.Core.Path.{sym, ap, _∙_}
 use native.Mathlib.Omega.{arith}
 use borrow.Author.Needs.{needs}
 use denote.Ref.{now}
-use Rattle.laws.specs.Numbered.{Numbered, answered}
+use Rattle.laws.specs.Numbered.{Numbered}
 use Rattle.links.proofs.KeyedLaws.{sound-keys}
 use Rattle.amiss.specs.Sound.{SoundFiles}
 use Rattle.thirteen.specs.Batch.{Batch, thirteen}

@@ -1,5 +1,5 @@
 -- `batch::check_records` meets its contract: 7, 8 and 9 come first, and where they find nothing no two records have one key, so that trips count.
-use mathlib.Core.Path.{_≡_, sym, _∙_}
+use mathlib.Core.Path.{_∙_}
 use borrow.Author.Needs.{needs}
 use denote.Ref.{now}
 use Rattle.thirteen.specs.Batch.{Batch, thirteen, fileIn}

@@ -1,5 +1,5 @@
 -- `byway::along` meets its contract: upward the next record, downward the previous one, each by the way that was made out for its file.
-use mathlib.Core.Path.{_≡_, refl, ap, _∙_}
+use mathlib.Core.Path.{refl, ap, _∙_}
 use borrow.Author.Needs.{needs}
 use denote.Ref.{now}
 use Rattle.walk.specs.declared.Found.{Found}

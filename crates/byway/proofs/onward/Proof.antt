@@ -1,12 +1,8 @@
 -- `byway::onward` meets its contract: the walk goes on behind the third number of the record that was cut.
-use mathlib.Core.Path.{_≡_, sym, ap, _∙_}
-use Prim.Native.Nat.{ℕ, _+_}
+use mathlib.Core.Path.{_∙_}
 use native.Mathlib.Omega.{arith}
 use borrow.Author.Needs.{needs}
 use denote.Ref.{now}
-use Rattle.file.specs.Files.{fieldsOf}
-use Rattle.file.specs.Records.{recordsIn}
-use Rattle.trail.specs.Trail.{stepOf, placeOf}
 use Rattle.trail.proofs.NumberLaws.{third-text, third-there}
 use Rattle.byway.proofs.onward.Statement.{statement}
 use Rattle.byway.proofs.onward.Tie as tie

@@ -1,7 +1,7 @@
 -- `clip::mark` meets its contract. The loop's invariant: `start` is where text i starts, the places before i say where theirs do, and those
 -- from i on are as they were. Behind the loop text i is the last, and its line ends where the record does.
 use mathlib.Core.Path.{_≡_, _∙_}
-use Prim.Native.Nat.{ℕ, _+_, _-_, _≤_}
+use Prim.Native.Nat.{_+_, _-_, _≤_}
 use native.Mathlib.Omega.{arith}
 use lib.ListN.{length, length-set}
 use denote.Ref.{now}

@@ -1,5 +1,5 @@
 -- `coded::code_sign` meets its contract: a code that is given is a number, and its sign is looked up.
-use mathlib.Core.Path.{_≡_, sym, ap, _∙_}
+use mathlib.Core.Path.{_∙_}
 use native.Mathlib.Omega.{arith}
 use borrow.Author.Tests.{eq-eqb, ne-eqb}
 use lib.ListN.{length}

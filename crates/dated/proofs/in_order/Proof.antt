@@ -1,6 +1,5 @@
 -- `dated::in_order` meets its contract: with a from-date, what is asked is what a to-date that closes it asks.
 use mathlib.Core.Path.{_∙_}
-use borrow.Author.Needs.{needs}
 use Rattle.laws.specs.Tests.{tests}
 use Rattle.field.specs.Rules.{inOrder}
 use Rattle.dated.proofs.RuleLaws.{order-given}

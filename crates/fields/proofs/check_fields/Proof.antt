@@ -1,18 +1,15 @@
 -- `fields::check_fields` meets its contract: the file's own refusal comes first, and a count tells that the file is legal.
-use mathlib.Core.Path.{_≡_, refl, sym, ap, _∙_}
+use mathlib.Core.Path.{refl, sym, ap, _∙_}
 use Prim.Native.Nat.{ℕ}
-use native.Mathlib.Omega.{arith}
 use borrow.Author.Needs.{needs}
 use borrow.Author.Tests.{eq-eqb, ne-eqb}
 use denote.Ref.{now}
-use Rattle.laws.specs.Numbered.{Numbered}
 use Rattle.file.specs.Answers.{numberedCounted}
-use Rattle.file.specs.Files.{fieldsOf}
-use Rattle.file.proofs.AnswerLaws.{CountedIn, asked-own, asked-whole, asked-read, file-fields}
+use Rattle.file.proofs.AnswerLaws.{CountedIn, asked-own, asked-whole, asked-read}
 use Rattle.field.specs.Stage.{fieldFault}
 use Rattle.file.specs.Records.{recordsIn}
-use Rattle.fields.specs.Check.{numberedChecked, faultIn, Ready}
-use Rattle.fields.proofs.StageLaws.{fields-few, ready}
+use Rattle.fields.specs.Check.{numberedChecked, faultIn}
+use Rattle.fields.proofs.StageLaws.{ready}
 use Rattle.fields.proofs.check_fields.Statement.{statement}
 use Rattle.fields.proofs.check_fields.Tie as tie
 

@@ -1,6 +1,6 @@
 -- `fields::first_unkind` meets its contract. The loop's invariant: the first field from i on that isn't of its kind is the first of all.
 use mathlib.Core.Path.{_≡_, refl, sym, ap, _∙_}
-use Prim.Native.Nat.{ℕ, _+_, _-_, _≤_, _<_}
+use Prim.Native.Nat.{_+_, _-_, _≤_}
 use native.Mathlib.Omega.{arith}
 use borrow.Author.Needs.{needs}
 use borrow.Author.Tests.{not-true, not-false}
@@ -8,7 +8,6 @@ use lib.ListN.{drop}
 use denote.Ref.{now}
 use Rattle.walk.specs.Walk.{cutRecord}
 use Rattle.walk.proofs.WalkLaws.{cut-left, cut-end}
-use Rattle.file.specs.Format.{Text}
 use Rattle.field.specs.Kinds.{admits}
 use Rattle.field.specs.Stage.{firstUnkind}
 use Rattle.field.specs.declared.Kind.{Kind}

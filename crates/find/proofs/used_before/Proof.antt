@@ -1,6 +1,5 @@
 -- `find::used_before` meets its contract: the first record with the key stands before this one, or it is this one.
-use mathlib.Core.Path.{_≡_, sym, _∙_}
-use native.Mathlib.Omega.{arith}
+use mathlib.Core.Path.{sym, _∙_}
 use borrow.Author.Needs.{needs}
 use denote.Ref.{now}
 use Rattle.keys.proofs.KeyFileLaws.{key-here}

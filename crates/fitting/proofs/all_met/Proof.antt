@@ -1,5 +1,5 @@
 -- `fitting::all_met` meets its contract. The loop's invariant: the first fault of the records from `at` on is that of the file.
-use mathlib.Core.Path.{_≡_, refl, sym, _∙_}
+use mathlib.Core.Path.{_≡_, refl, _∙_}
 use mathlib.Core.Bool.{false}
 use Prim.Native.Nat.{ℕ, _+_, _-_}
 use native.Mathlib.Omega.{arith}

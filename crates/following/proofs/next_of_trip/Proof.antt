@@ -1,5 +1,5 @@
 -- `following::next_of_trip` meets its contract: from ten digits on there is no number.
-use mathlib.Core.Path.{_≡_, sym}
+use mathlib.Core.Path.{sym}
 use native.Mathlib.Omega.{arith}
 use borrow.Author.Needs.{needs}
 use denote.Ref.{now}

@@ -1,7 +1,6 @@
 -- `lines::record_after` meets its contract: the LF behind the record is the next one from within it, too.
-use mathlib.Core.Path.{_≡_, _∙_}
+use mathlib.Core.Path.{_∙_}
 use native.Mathlib.Omega.{arith}
-use borrow.Author.Needs.{needs}
 use denote.Ref.{now}
 use Rattle.lines.proofs.LineLaws.{Skips, skips}
 use Rattle.lines.proofs.record_after.Statement.{statement}

@@ -1,7 +1,7 @@
 -- `quotes::text_close` meets its contract. The loop's invariant: the text from `at` on stops where the text from `i` on stops, and no
 -- plain byte stands at `i`.
-use mathlib.Core.Path.{_≡_, sym, _∙_}
-use Prim.Native.Nat.{_+_, _-_, _<_}
+use mathlib.Core.Path.{sym, _∙_}
+use Prim.Native.Nat.{_-_}
 use native.Mathlib.Omega.{arith}
 use borrow.Author.Needs.{needs}
 use lib.ListN.{length}

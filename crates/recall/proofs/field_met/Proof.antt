@@ -1,6 +1,6 @@
 -- `recall::field_met` meets its contract: what stands in the table is so, and what is put there was looked for.
 use mathlib.Core.Path.{_≡_, sym, _∙_}
-use Prim.Native.Nat.{ℕ, _%_, _<_}
+use Prim.Native.Nat.{_%_, _<_}
 use native.Mathlib.Omega.{arith}
 use borrow.Author.Needs.{needs}
 use lib.ListN.{length}

@@ -1,10 +1,10 @@
 -- `recall::record_met` meets its contract. The loop's invariant: the first field from f on with which something is wrong is the first
 -- of all.
 use mathlib.Core.Path.{_≡_, refl, sym, _∙_}
-use Prim.Native.Nat.{ℕ, _+_, _-_, _≤_}
+use Prim.Native.Nat.{_+_, _-_, _≤_}
 use native.Mathlib.Omega.{arith}
 use borrow.Author.Needs.{needs}
-use borrow.Author.Tests.{not-true, not-false}
+use borrow.Author.Tests.{not-false}
 use lib.ListN.{length}
 use Rattle.laws.specs.Tests.{never}
 use Rattle.rules.specs.Texts.{texts}

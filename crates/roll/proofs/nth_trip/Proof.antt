@@ -1,5 +1,5 @@
 -- `roll::nth_trip` meets its contract. The loop's invariant: the records from `at` on are those from the ith on.
-use Prim.Native.Nat.{ℕ, _-_, _≤_}
+use Prim.Native.Nat.{_-_, _≤_}
 use native.Mathlib.Omega.{arith}
 use lib.ListN.{length}
 use denote.Ref.{now}

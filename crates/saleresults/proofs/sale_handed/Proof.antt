@@ -2,7 +2,6 @@
 use mathlib.Core.Path.{ap, _∙_}
 use borrow.Author.Needs.{needs}
 use Rattle.outcome.specs.Answers.{numberedSale}
-use Rattle.saleresults.specs.Results.{saleResult}
 use Rattle.saleresults.proofs.RefusedLaws.{saleAt, refused-sale}
 use Rattle.saleresults.proofs.sale_handed.Statement.{statement}
 use Rattle.saleresults.proofs.sale_handed.Tie as tie

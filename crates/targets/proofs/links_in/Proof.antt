@@ -1,6 +1,4 @@
 -- `targets::links_in` meets its contract: each arm is the size of a file's list of links.
-use mathlib.Core.Path.{_≡_}
-use borrow.Author.Needs.{needs}
 use Rattle.link.specs.Links.{links, linksIn, zastavky, linky, spoje, zaslinky, zasspoje, udaje, caskody, altdop, altlinky, mistenky}
 use Rattle.link.proofs.MatchLaws.{count-in, no-count}
 use Rattle.targets.proofs.links_in.Statement.{statement}

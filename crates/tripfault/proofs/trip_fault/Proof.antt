@@ -1,5 +1,5 @@
 -- `tripfault::trip_fault` meets its contract: the trip's line and number are read, its days tried, and then its stops.
-use mathlib.Core.Path.{_≡_, _∙_}
+use mathlib.Core.Path.{_∙_}
 use native.Mathlib.Omega.{arith}
 use denote.Ref.{now}
 use Rattle.file.specs.Files.{fieldsOf, fieldCounts}

@@ -1,5 +1,7 @@
 // What each kind of field admits: document 01, "Fields". All of it is inner: what each function means is its definition in the crate `field`,
 // specs/Kinds.antt and specs/Values.antt.
+#![tactic(auto)]
+
 ghost use Rattle.std.specs.Prelude.{◌≡◌};
 ghost use Rattle.laws.specs.Tests.{one_of};
 ghost use Rattle.field.specs.Values.{is_empty, among, sized};

@@ -1,5 +1,6 @@
 // Looks at the records that come next in the order of a list. They lie scattered over the file, and one that is read only when its turn comes is waited for;
 // these looks don't wait for each other, so 32 records come near in the time of one. All of it is inner, and nothing rests on what is answered.
+#![tactic(auto)]
 
 // Whether a record may start at a place: a quote stands there. The byte 48 on is looked at too, since a record often ends in the next stretch of memory.
 fn seems_record(s: &[u8], at: usize) -> bool {

@@ -1,5 +1,7 @@
 // The almanac of 1900 to 2099: one line for each year, from the calendar's calls. What it writes is held to `stdout`,
 // which tests/almanac.py made from another calendar; that script says what the columns are.
+#![tactic(auto)]
+
 ghost use Rattle.std.specs.Prelude.{◌≤◌};
 
 use calendar::{Day, DayOfWeek, Week};

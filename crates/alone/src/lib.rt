@@ -1,4 +1,6 @@
 // What the files of a batch are by themselves: whether they have none of document 01's 1 to 6, each file read once; where they have one, the first.
+#![tactic(auto)]
+
 ghost use Rattle.std.specs.Prelude.{◌≡◌, true, []};
 ghost use Rattle.laws.specs.Numbered.{answered};
 ghost use Rattle.thirteen.specs.Batch.{thirteen};

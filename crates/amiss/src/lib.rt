@@ -1,4 +1,6 @@
 // What is wrong with a link by the numbers of a record that was cut; the sign of a code. Fields count from 1, and texts from 0.
+#![tactic(auto)]
+
 ghost use Rattle.std.specs.Prelude.{◌≡◌, true, [], ◌∷◌, ◌<◌, length};
 ghost use Rattle.laws.specs.Tests.{pick};
 ghost use Rattle.file.specs.Reader.{Classes};

@@ -1,4 +1,6 @@
 // Many sale questions, answered one after the other on a batch that stands.
+#![tactic(auto)]
+
 ghost use Rattle.std.specs.Prelude.{◌≡◌, [], ◌∷◌, ◌+◌, ◌*◌, ◌≤◌, length};
 ghost use Rattle.laws.specs.Splice.{splice};
 ghost use Rattle.file.specs.Files.{fields_of};

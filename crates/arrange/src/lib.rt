@@ -1,4 +1,6 @@
 // The hint of a batch: where the records of each keyed file start, in order of their keys, for the files whose keys don't rise by themselves.
+#![tactic(auto)]
+
 ghost use Rattle.thirteen.specs.Batch.{thirteen};
 ghost use Rattle.arrange.specs.Hint.{HintIs};
 
@@ -8,7 +10,7 @@ use file::Refusal;
 use parts::{put_all, whole_size};
 
 // The answer.
-#[derive(Drop)]
+#[derive(Clone, Copy)]
 pub enum Arranged {
     // What is wrong with a file by itself, or 22 (a file's `NoRoom`) where the hint doesn't fit into the list.
     Refused(Fault),

@@ -1,4 +1,6 @@
 // The keys of records that were cut, one behind another: each is above the one before it.
+#![tactic(auto)]
+
 ghost use Rattle.std.specs.Prelude.{◌≡◌, true, ◌≤◌, ◌<◌};
 ghost use Rattle.rules.specs.Texts.{texts, Kinded};
 ghost use Rattle.keys.specs.Keys.{none};

@@ -1,4 +1,6 @@
 // Many questions and their answers as lists of numbers: seven for a question, three for an answer; and what comes back of them.
+#![tactic(auto)]
+
 ghost use Rattle.std.specs.Prelude.{◌≡◌, [], ◌∷◌, ◌+◌, ◌*◌, ◌≤◌, leb, length};
 ghost use Rattle.laws.specs.Splice.{splice};
 ghost use Rattle.laws.specs.Tests.{pick};
@@ -10,7 +12,7 @@ use fault::Fault;
 use file::Refusal;
 
 // The answer.
-#[derive(Drop)]
+#[derive(Clone, Copy)]
 pub enum Sales {
     // The batch's own refusal, or 22 (a file's `NoRoom`) where the answers don't fit into the list.
     Refused(Fault),
@@ -19,7 +21,7 @@ pub enum Sales {
 }
 
 // An answer's number and minutes.
-#[derive(Drop)]
+#[derive(Clone, Copy)]
 pub struct Row {
     pub number: u64,
     pub departure: u64,

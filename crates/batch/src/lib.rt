@@ -1,4 +1,6 @@
 // The check of a batch in document 01's order: refusals 1 to 11, or accepted with the counts of files 2, 5, 6 and 8.
+#![tactic(auto)]
+
 ghost use Rattle.std.specs.Prelude.{◌≡◌, [], ◌≤◌, length, drop};
 ghost use Rattle.laws.specs.Numbered.{answered};
 ghost use Rattle.file.specs.Reader.{Classes};

@@ -1,4 +1,6 @@
 // A record of a file whose keys rise, by bisection on the file's bytes, with no memory beside them. All of it is inner.
+#![tactic(auto)]
+
 ghost use Rattle.std.specs.Prelude.{◌≡◌, ◌≤◌, ◌<◌, length};
 ghost use Rattle.file.specs.Files.{fields_of};
 ghost use Rattle.lines.specs.Lines.{behind};

@@ -1,11 +1,13 @@
 // Two stops of a sale: which is passed first, whether one can board at the first and leave at the second, and at what times.
+#![tactic(auto)]
+
 ghost use Rattle.std.specs.Prelude.{◌≡◌};
 ghost use Rattle.laws.specs.Tests.{both, one_of};
 ghost use Rattle.boarding.specs.Answers.{numbered_sold};
 ghost use Rattle.boarding.specs.Plain.{passed_first, left_of, sold_of};
 
 // The answer on a batch that stands.
-#[derive(Drop)]
+#[derive(Clone, Copy)]
 pub enum Sold {
     // 12: the date isn't real or not in 1900-2099.
     NoDate,
@@ -28,7 +30,7 @@ pub enum Sold {
 }
 
 // What a stop is to one who boards or leaves there.
-#[derive(Drop)]
+#[derive(Clone, Copy)]
 pub struct Served {
     // Whether there is a departure, and its minute.
     pub departs: bool,

@@ -1,4 +1,6 @@
 // The thirteen files in one buffer, one behind the other: document 01, "The check program and the desk host".
+#![tactic(auto)]
+
 ghost use Rattle.std.specs.Prelude.{◌≡◌, true, ◌≤◌, length};
 ghost use Rattle.buffer.specs.Buffer.{Stand, part_of};
 

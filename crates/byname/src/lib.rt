@@ -1,4 +1,6 @@
 // The stops of a name: Zastavky record by record, how many have it, and the number of the first.
+#![tactic(auto)]
+
 ghost use Rattle.std.specs.Prelude.{◌≡◌};
 ghost use Rattle.file.specs.Files.{fields_of};
 ghost use Rattle.file.specs.Reader.{Classes};

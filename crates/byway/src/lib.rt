@@ -1,4 +1,6 @@
 // A trip's next record by a search, and a record of one file by its key: each goes the way that was made out for its file.
+#![tactic(auto)]
+
 ghost use Rattle.std.specs.Prelude.{◌≡◌, [], ◌∷◌, ◌≤◌, ◌<◌, length};
 ghost use Rattle.file.specs.Files.{fields_of};
 ghost use Rattle.file.specs.Records.{records_in};

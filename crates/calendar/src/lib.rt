@@ -2,38 +2,40 @@
 // Here stand the public calls. Each takes any numbers and any list, and answers as its definition in specs/Answers.antt says:
 // a date that isn't real, and a day past 73048, are refusal 12. What is behind them
 // is in the crates `dates`, `weeks` and `signs`, for other crates to call.
+#![tactic(auto)]
+
 ghost use Rattle.calendar.specs.Answers.{DayIs, DateIs, WeekdayIs, WeekIs, HolidayIs, FitsIs};
 
 // A date's day number.
-#[derive(Drop)]
+#[derive(Clone, Copy)]
 pub enum Day {
     At(u64),
     NotReal,
 }
 
 // A day's date: day, month, year.
-#[derive(Drop)]
+#[derive(Clone, Copy)]
 pub enum Date {
     On(u64, u64, u64),
     NoDate,
 }
 
 // A day's weekday, from Monday 1 to Sunday 7.
-#[derive(Drop)]
+#[derive(Clone, Copy)]
 pub enum DayOfWeek {
     Is(u64),
     NoWeekday,
 }
 
 // A day's ISO week, and whether it is odd.
-#[derive(Drop)]
+#[derive(Clone, Copy)]
 pub enum Week {
     Counted(u64, bool),
     NoWeek,
 }
 
 // What is asked of a day.
-#[derive(Drop)]
+#[derive(Clone, Copy)]
 pub enum Whether {
     Yes,
     Not,

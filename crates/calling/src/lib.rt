@@ -1,4 +1,6 @@
 // A trip's stops: document 01, "A trip's stops". Its records are walked through in Zasspoje in travel order.
+#![tactic(auto)]
+
 ghost use Rattle.std.specs.Prelude.{◌≡◌, ◌<◌, leb};
 ghost use Rattle.laws.specs.Tests.{pick};
 ghost use Rattle.file.specs.Files.{fields_of};
@@ -17,7 +19,7 @@ use steps::{first_step, step_on};
 
 // Whether a trip's stops fit, and where the one that is last in the file stands, with the last entry of an index that was looked at: the
 // next trip's are expected behind it.
-#[derive(Drop)]
+#[derive(Clone, Copy)]
 pub struct Stops {
     pub fit: bool,
     pub last: usize,

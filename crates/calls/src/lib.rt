@@ -1,5 +1,7 @@
 // A trip's nth stop in travel order: its tariff number, its stop, its times, its signs. The call takes any bytes and any numbers, and checks the batch
 // first.
+#![tactic(auto)]
+
 ghost use Rattle.thirteen.specs.Batch.{thirteen};
 ghost use Rattle.calls.specs.Numbers.{StopIs};
 

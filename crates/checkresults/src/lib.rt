@@ -1,4 +1,6 @@
 // What C is handed of the checks: document 01's refusals 1 to 11, each with its place, and the counts of a batch that is accepted.
+#![tactic(auto)]
+
 ghost use Rattle.std.specs.Prelude.{◌≡◌};
 ghost use Rattle.laws.specs.Numbered.{refused_in};
 ghost use Rattle.file.specs.Answers.{numbered};
@@ -13,7 +15,7 @@ use outcome::Verdict;
 
 // A number and its place, of one file's check and of any fault.
 #[repr(C)]
-#[derive(Drop)]
+#[derive(Clone, Copy)]
 pub struct FieldsResult {
     pub number: u64,
     pub file: u64,
@@ -24,7 +26,7 @@ pub struct FieldsResult {
 
 // The same of a whole batch, and how many records the files 2, 5, 6 and 8 have where it is accepted.
 #[repr(C)]
-#[derive(Drop)]
+#[derive(Clone, Copy)]
 pub struct CheckResult {
     pub number: u64,
     pub file: u64,

@@ -1,5 +1,7 @@
 // A record is cut as `walk::cut` cuts it, but for its last text, which is not read: it ends where the line does, and a line's end is looked for eight
 // bytes at a time. Last texts are the long ones.
+#![tactic(auto)]
+
 ghost use Rattle.std.specs.Prelude.{◌<◌, length};
 ghost use Rattle.file.specs.Reader.{Classes};
 ghost use Rattle.walk.specs.Walk.{RecordAt, Cuts};

@@ -1,4 +1,6 @@
 // The signs of a record's codes, looked up in Pevnykod.
+#![tactic(auto)]
+
 ghost use Rattle.std.specs.Prelude.{◌≡◌, ◌+◌, ◌<◌};
 ghost use Rattle.laws.specs.Tests.{pick};
 ghost use Rattle.file.specs.Files.{fields_of};

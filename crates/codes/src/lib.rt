@@ -1,4 +1,6 @@
 // Time codes: what one says, and what those of a trip come to, by a list in which place t is 1 if there is one of type t, else 0.
+#![tactic(auto)]
+
 ghost use Rattle.std.specs.Prelude.{◌≡◌, true, not, List, ℕ, ◌≤◌, eqb};
 ghost use Rattle.laws.specs.Tests.{pick, both};
 ghost use Rattle.periods.specs.Periods.{parity_fits};

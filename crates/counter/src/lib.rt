@@ -1,4 +1,6 @@
 // Whether a trip of a batch runs on a day. The call takes any bytes and any numbers, and checks the batch first.
+#![tactic(auto)]
+
 ghost use Rattle.std.specs.Prelude.{◌≡◌, ◌≤◌};
 ghost use Rattle.file.specs.Files.{fields_of};
 ghost use Rattle.file.specs.Reader.{Classes};

@@ -1,11 +1,13 @@
 // The counts of an accepted batch: how many stops, lines, trips and trip stops it has.
+#![tactic(auto)]
+
 ghost use Rattle.keys.specs.KeyFiles.{KeyFile};
 ghost use Rattle.counts.specs.Counted.{Counted};
 
 use tally::count;
 
 // How many records the files 2, 5, 6 and 8 have.
-#[derive(Drop)]
+#[derive(Clone, Copy)]
 pub struct Counts {
     pub stops: u64,
     pub lines: u64,

@@ -1,4 +1,6 @@
 // What a record of a trip's stops says, for the pass over them in `track`; and that this pass is document 01's rule.
+#![tactic(auto)]
+
 ghost use Rattle.std.specs.Prelude.{◌≡◌, true, ◌<◌};
 ghost use Rattle.field.specs.Kinds.{admits};
 ghost use Rattle.field.specs.Names.{trip_stops_file};

@@ -1,5 +1,7 @@
 // Document 01's rules inside one record that are on dates and on the marks of time codes, asked of texts. All of it is inner: what each function means is
 // its definition in the crate field, specs/Rules.antt.
+#![tactic(auto)]
+
 ghost use Rattle.std.specs.Prelude.{◌≡◌, true, [], ◌∷◌, ◌+◌, ◌≤◌, length, take, drop};
 ghost use Rattle.laws.specs.Tests.{pick, both};
 ghost use Rattle.field.specs.Values.{is_empty, given, among, all_digits, value, is_date_text};

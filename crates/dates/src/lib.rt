@@ -1,5 +1,7 @@
 // Dates and day numbers, by counting years and months one by one (document 01, "Days"). All of it is inner: what each function
 // means is its definition in specs/Dates.antt, and callers see no more than that.
+#![tactic(auto)]
+
 ghost use Rattle.std.specs.Prelude.{◌≡◌, true, ◌+◌, ◌-◌, ◌≤◌};
 ghost use Rattle.dates.specs.Dates.{leap, year_days, month_days, is_date, years_days, months_days, day_number, is_day, last_begun, year_of, new_year};
 

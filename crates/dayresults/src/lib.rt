@@ -1,18 +1,20 @@
 // What C is handed of the calendar's calls on dates and weekdays (document 01, "Days"). Each result's `number` is 0 for an answer and 12 for a refusal, and the
 // other fields are then the answer's values, or 0 with a refusal.
+#![tactic(auto)]
+
 ghost use Rattle.dayresults.specs.Results.{DayGives, DateGives, WeekdayGives};
 
 use calendar::{Date, Day, DayOfWeek};
 
 #[repr(C)]
-#[derive(Drop)]
+#[derive(Clone, Copy)]
 pub struct DayResult {
     pub number: u64,
     pub day: u64,
 }
 
 #[repr(C)]
-#[derive(Drop)]
+#[derive(Clone, Copy)]
 pub struct DateResult {
     pub number: u64,
     pub day: u64,
@@ -21,7 +23,7 @@ pub struct DateResult {
 }
 
 #[repr(C)]
-#[derive(Drop)]
+#[derive(Clone, Copy)]
 pub struct WeekdayResult {
     pub number: u64,
     pub weekday: u64,

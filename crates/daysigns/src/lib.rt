@@ -1,4 +1,6 @@
 // The signs of a trip's codes, which its record of Spoje has and Pevnykod tells: whether one is a day sign, and whether they allow a day.
+#![tactic(auto)]
+
 ghost use Rattle.std.specs.Prelude.{◌≡◌};
 ghost use Rattle.file.specs.Files.{fields_of};
 ghost use Rattle.file.specs.Reader.{Classes};

@@ -1,5 +1,7 @@
 // A number in decimal: document 01, "Counts and places are written in decimal without leading zeros". Its digits come by recursion on the
 // number divided by ten.
+#![tactic(auto)]
+
 ghost use Rattle.std.specs.Prelude.{◌≡◌, [], ◌∷◌, ◌+◌, ◌≤◌, ◌<◌, length};
 ghost use Rattle.laws.specs.Splice.{splice};
 ghost use Rattle.decimal.specs.Digits.{digits_of};

@@ -1,4 +1,6 @@
 // A trip's records one after another, by the entries of an index: where a walk begins, and from one entry to the neighbouring one.
+#![tactic(auto)]
+
 ghost use Rattle.std.specs.Prelude.{◌≡◌, true, ℕ, ◌+◌, ◌*◌, ◌≤◌, ◌<◌, length, get_or};
 ghost use Rattle.file.specs.Files.{fields_of};
 ghost use Rattle.file.specs.Records.{records_in};
@@ -16,7 +18,7 @@ use seek::lower;
 use walk::Found;
 
 // Where a walk stands, and the entry of the index that names the place: a hint for the next step, and any number where there is no index.
-#[derive(Drop)]
+#[derive(Clone, Copy)]
 pub struct Step {
     pub at: usize,
     pub entry: usize,

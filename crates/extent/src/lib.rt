@@ -1,5 +1,7 @@
 // Where a text of each kind ends that starts at a place of a file: document 01, "Fields", and the bytes of a text. A number's bytes are looked at
 // once, as its digits. What is wrong, and where, is not said: 0 is answered, which is no place behind a byte.
+#![tactic(auto)]
+
 ghost use Rattle.std.specs.Prelude.{◌≡◌, true, [], ◌≤◌, length, drop};
 ghost use Rattle.file.specs.Reader.{Classes, Reached};
 ghost use Rattle.field.specs.Kinds.{admits};

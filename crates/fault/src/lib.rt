@@ -1,11 +1,13 @@
 // The first fault of a batch: document 01's refusals 1 to 11, each with its place.
+#![tactic(auto)]
+
 ghost use Rattle.std.specs.Prelude.{◌≡◌, eqb};
 ghost use Rattle.fault.specs.Answers.{numbered_fault};
 
 use file::Refusal;
 
 // The first fault of a batch.
-#[derive(Drop)]
+#[derive(Clone, Copy)]
 pub enum Fault {
     // There is none.
     None,

@@ -1,5 +1,7 @@
 // The first fault of a file among its keys, links and signs: document 01, refusals 7, 8 and 9, record by record: the key, then fields rising, at one field
 // 8 before 9.
+#![tactic(auto)]
+
 ghost use Rattle.std.specs.Prelude.{◌≡◌, ◌≤◌};
 ghost use Rattle.laws.specs.Numbered.{refused_in};
 ghost use Rattle.rules.specs.Texts.{texts};

@@ -1,11 +1,13 @@
 // The kinds of fields, and the values of digits: document 01, "Fields". What a field of each kind may hold is tried in the crate `admits`; which field is of which
 // kind stands in the crate `kinds`.
+#![tactic(auto)]
+
 mod values;
 
 pub use values::{day_of, is_byte, is_date, is_digits, is_one_of, is_time, minute_of, value_of};
 
 // What a field may hold.
-#[derive(Drop)]
+#[derive(Clone, Copy)]
 pub enum Kind {
     // So many digits, at least and at most.
     Digits(usize, usize),

@@ -1,5 +1,7 @@
 // The first field that isn't of its kind, and the first record that breaks a rule of its own: document 01's batch order, "then 5 and 6".
 // One pass over a file's records, each cut once; nothing is copied.
+#![tactic(auto)]
+
 ghost use Rattle.std.specs.Prelude.{◌≡◌};
 ghost use Rattle.walk.specs.Walk.{Parted, cut_record};
 ghost use Rattle.file.specs.Records.{records_in};
@@ -13,7 +15,7 @@ use rules::meets_rules;
 use walk::{cut, part};
 
 // What the check of one file comes to.
-#[derive(Drop)]
+#[derive(Clone, Copy)]
 pub enum Checked {
     // Every field is of its kind, and every record meets its rules.
     Sound,

@@ -1,4 +1,6 @@
 // What C is handed of the check of one file, read by itself: the number of its first fault, and the place, in a struct of `checkresults`.
+#![tactic(auto)]
+
 ghost use Rattle.fieldsresults.specs.Results.{FieldsGives};
 
 use checkresults::{FieldsResult, found_in, in_file};

@@ -1,4 +1,6 @@
 // What was found in one file, 1 to 6, as a fault of the batch; VerzeJDF and its version.
+#![tactic(auto)]
+
 ghost use Rattle.std.specs.Prelude.{◌≡◌, true};
 ghost use Rattle.file.specs.Records.{records_in};
 ghost use Rattle.fields.specs.Check.{numbered_checked};

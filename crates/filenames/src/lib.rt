@@ -1,4 +1,6 @@
 // Each of the thirteen files, read by its name: document 01, "The check program and the desk host".
+#![tactic(auto)]
+
 ghost use Rattle.std.specs.Prelude.{◌≡◌, ◌≤◌, length, take};
 ghost use Rattle.loading.specs.Reached.{Reached};
 

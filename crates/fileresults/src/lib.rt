@@ -1,5 +1,7 @@
 // What C is handed of the file's calls (document 01, "Bytes of a file"). Each result's `number` is 0 for an answer, else the refusal's; the
 // place and the answer's values follow, 0 where there is none.
+#![tactic(auto)]
+
 ghost use Rattle.std.specs.Prelude.{◌≡◌};
 ghost use Rattle.file.specs.Answers.{numbered};
 ghost use Rattle.fileresults.specs.Results.{refused_place, RecordsGives, StretchGives, WriteGives};
@@ -7,7 +9,7 @@ ghost use Rattle.fileresults.specs.Results.{refused_place, RecordsGives, Stretch
 use file::{Counted, Refusal, Stretch, Written};
 
 // Which of document 01's refusals, and where.
-#[derive(Drop)]
+#[derive(Clone, Copy)]
 pub struct Place {
     pub number: u64,
     pub file: u64,
@@ -15,7 +17,7 @@ pub struct Place {
 }
 
 #[repr(C)]
-#[derive(Drop)]
+#[derive(Clone, Copy)]
 pub struct RecordsResult {
     pub number: u64,
     pub file: u64,
@@ -26,7 +28,7 @@ pub struct RecordsResult {
 }
 
 #[repr(C)]
-#[derive(Drop)]
+#[derive(Clone, Copy)]
 pub struct StretchResult {
     pub number: u64,
     pub file: u64,
@@ -38,7 +40,7 @@ pub struct StretchResult {
 }
 
 #[repr(C)]
-#[derive(Drop)]
+#[derive(Clone, Copy)]
 pub struct WriteResult {
     pub number: u64,
     pub place: u64,

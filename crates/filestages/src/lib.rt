@@ -1,4 +1,6 @@
 // What each file of a batch is by itself, in document 01's order: 1 over all files, 2 and 3 over all files, 4, then 5 and 6.
+#![tactic(auto)]
+
 ghost use Rattle.std.specs.Prelude.{◌≡◌, take};
 ghost use Rattle.thirteen.specs.Batch.{thirteen};
 ghost use Rattle.fault.specs.Answers.{numbered_fault};

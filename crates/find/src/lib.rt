@@ -1,5 +1,7 @@
 // A record by its key, in three ways that meet one promise, `first_with`: the first record that has the key, by its place, or none. Where keys
 // rise, the place that was found last and the one behind it are tried, then bisection; else a lent index, if there is one; else every record.
+#![tactic(auto)]
+
 ghost use Rattle.std.specs.Prelude.{◌≡◌, [], ◌∷◌, ◌<◌, length};
 ghost use Rattle.file.specs.Files.{fields_of};
 ghost use Rattle.file.specs.Records.{records_in};
@@ -15,7 +17,7 @@ use seek::lower;
 use walk::Found;
 
 // What was found, and the entry of the index that led to it: the next search looks there first, and nothing is promised of it.
-#[derive(Drop)]
+#[derive(Clone, Copy)]
 pub struct Hit {
     pub found: Found,
     pub entry: usize,

@@ -1,4 +1,6 @@
 // Whether nothing is wrong with any record of a file whose keys are all different, by its index or in its own order: then it has no first fault.
+#![tactic(auto)]
+
 ghost use Rattle.std.specs.Prelude.{◌≡◌, true, [], ◌≤◌, length};
 ghost use Rattle.laws.specs.Numbered.{answered};
 ghost use Rattle.link.specs.Stage.{link_fault};

@@ -1,4 +1,6 @@
 // What is wrong with a field of a record that was cut: its link, and then its sign. Fields count from 1, and texts from 0.
+#![tactic(auto)]
+
 ghost use Rattle.std.specs.Prelude.{◌≡◌, true, ◌<◌};
 ghost use Rattle.laws.specs.Tests.{pick};
 ghost use Rattle.field.specs.Values.{given, value};

@@ -1,5 +1,7 @@
 // The record of a trip that is next in key order, in three ways that meet one promise, `next_of`: where keys rise by bisection, by a lent index,
 // record by record.
+#![tactic(auto)]
+
 ghost use Rattle.std.specs.Prelude.{◌≡◌, eqb, leb, ◌<◌, length};
 ghost use Rattle.laws.specs.Tests.{pick, both};
 ghost use Rattle.file.specs.Files.{fields_of};

@@ -1,5 +1,7 @@
 // A glance at the first records of files: whether their keys seem to rise. Nothing is asked of the bytes, and nothing rests on what is said: it spares a
 // pass over files that is of use only where all keys rise. All of it is inner.
+#![tactic(auto)]
+
 ghost use Rattle.std.specs.Prelude.{◌≡◌};
 
 use lines::line_after;
@@ -11,14 +13,14 @@ const FIRST: usize = 32;
 const REACH: usize = 65_536;
 
 // What digits are worth, or the last nine of them, where there are more; and the place behind the last.
-#[derive(Drop)]
+#[derive(Clone, Copy)]
 struct Seen {
     value: u64,
     end: usize,
 }
 
 // The first three numbers of a record.
-#[derive(Drop)]
+#[derive(Clone, Copy)]
 struct Numbers {
     first: u64,
     second: u64,

@@ -1,4 +1,6 @@
 // A trip's stops one by one: how many it has, the nth in travel order, and whether a later one has a time.
+#![tactic(auto)]
+
 ghost use Rattle.std.specs.Prelude.{◌≡◌, ◌<◌, length, drop};
 ghost use Rattle.file.specs.Files.{fields_of};
 ghost use Rattle.file.specs.Reader.{Classes};

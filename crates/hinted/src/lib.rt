@@ -1,5 +1,7 @@
 // Files in any order, with a list that the caller lends: the places where the records start, in the order of their keys. The list is a hint:
 // it may hold anything, it is looked at once, and no answer depends on it. All of it is inner.
+#![tactic(auto)]
+
 ghost use Rattle.std.specs.Prelude.{◌≡◌, true, ◌≤◌, ◌<◌, ◌^◌, length};
 ghost use Rattle.file.specs.Files.{fields_of};
 ghost use Rattle.file.specs.Records.{records_in};

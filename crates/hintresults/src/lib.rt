@@ -1,4 +1,6 @@
 // What C is handed of the hint's maker: number and place, and how many places were written, 0 with a refusal.
+#![tactic(auto)]
+
 ghost use Rattle.std.specs.Prelude.{◌≡◌};
 ghost use Rattle.arrange.specs.Hint.{numbered_hint};
 ghost use Rattle.hintresults.specs.Results.{hint_result};
@@ -7,7 +9,7 @@ use arrange::Arranged;
 use checkresults::handed;
 
 #[repr(C)]
-#[derive(Drop)]
+#[derive(Clone, Copy)]
 pub struct HintResult {
     pub number: u64,
     pub file: u64,

@@ -1,6 +1,8 @@
 // The check program: document 01, "The check program and the desk host". It reads the thirteen files from its working directory and writes one
 // line. A file that is missing counts as empty. One that is there and can't be read ends the program with a message and no line: files that
 // were read in part are never judged.
+#![tactic(auto)]
+
 ghost use Rattle.std.specs.Prelude.{◌≡◌, ◌≤◌, length};
 ghost use Rattle.laws.specs.Splice.{splice};
 ghost use Rattle.buffer.specs.Buffer.{Stand, parts_of};

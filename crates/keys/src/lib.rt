@@ -1,18 +1,20 @@
 // A record's key: document 01, "The batch". Keys compare numbers by value. All of it is inner: what each function means is its definition
 // in specs/Ranks.antt.
+#![tactic(auto)]
+
 ghost use Rattle.std.specs.Prelude.{◌≡◌, ◌≤◌, ◌<◌, ltb, eqb, length, drop};
 ghost use Rattle.keys.specs.Keys.{none};
 ghost use Rattle.keys.specs.Ranks.{rank_key, rank_of, KeyIs, KeyAt, record_at, digits_from, NumberIs};
 
 // The first two numbers of a key in one, or its only one; and its third, or 0.
-#[derive(Drop)]
+#[derive(Clone, Copy)]
 pub struct Key {
     pub hi: u64,
     pub lo: u64,
 }
 
 // A number, and the place behind its last digit.
-#[derive(Drop)]
+#[derive(Clone, Copy)]
 struct Number {
     value: u64,
     end: usize,

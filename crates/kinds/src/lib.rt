@@ -1,5 +1,7 @@
 // The kind of every field: document 01, "Fields", and the tables of 000. A match on the file's number calls a match on the field's
 // number, one function for each file. All of it is inner: what each function means is its definition in `field`, specs/Kinds.antt.
+#![tactic(auto)]
+
 ghost use Rattle.std.specs.Prelude.{◌≡◌, ◌∷◌, get_or};
 ghost use Rattle.field.specs.Kinds.{zastavky, pevnykod, dopravci, linky, spoje, zaslinky, zasspoje, udaje, caskody, altdop, altlinky, mistenky, kind_of};
 

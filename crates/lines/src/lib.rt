@@ -1,4 +1,6 @@
 // From line to line of a file: a legal file's records are its lines.
+#![tactic(auto)]
+
 ghost use Rattle.std.specs.Prelude.{◌≡◌, ◌+◌, ◌≤◌, ◌<◌, length, drop};
 ghost use Rattle.lines.specs.Lines.{Place, behind, lead};
 

@@ -1,8 +1,9 @@
 // Keys, links and signs: document 01, "The batch" and the permitted signs under "Fields"; refusals 7, 8 and 9. Here stand the definitions and what a
 // batch keeps by them; the code that looks a field up in the tables is in the crate `targets`.
+#![tactic(auto)]
 
 // What a field links to.
-#[derive(Drop)]
+#[derive(Clone, Copy)]
 pub enum Link {
     // Nothing.
     Free,
@@ -23,7 +24,7 @@ pub enum Link {
 }
 
 // What the check of keys, links and signs comes to.
-#[derive(Drop)]
+#[derive(Clone, Copy)]
 pub enum Linked {
     // Nothing is wrong.
     Sound,

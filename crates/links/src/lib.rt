@@ -1,6 +1,8 @@
 // Keys, links and signs: document 01, "The batch" and the permitted signs under "Fields"; refusals 7, 8 and 9. What is linked to what, and which
 // signs are permitted where, stands in the crate `link`, and what is wrong with one field in `flaw`; here the batch's files are gone through in
 // document 01's order, files 2-13.
+#![tactic(auto)]
+
 ghost use Rattle.std.specs.Prelude.{◌≡◌, ◌≤◌, eqb, length};
 ghost use Rattle.file.specs.Reader.{Classes};
 ghost use Rattle.link.specs.Stage.{link_fault, links_fault, numbered_linked};

@@ -1,5 +1,7 @@
 // A file of the working directory, read into a buffer behind others: document 01, "The check program and the desk host". One that is missing counts
 // as empty. One that is there and can't be read is reported.
+#![tactic(auto)]
+
 ghost use Rattle.std.specs.Prelude.{◌≡◌, ◌≤◌, length, take};
 ghost use Rattle.libc.specs.Io.{Ended};
 ghost use Rattle.loading.specs.Reached.{Reached};
@@ -7,7 +9,7 @@ ghost use Rattle.loading.specs.Reached.{Reached};
 use libc::PATH_MAX;
 
 // What came of reading a file into the buffer.
-#[derive(Drop)]
+#[derive(Clone, Copy)]
 pub enum Filled {
     // The place after it.
     To(usize),

@@ -1,4 +1,6 @@
 // Where a search looks next: at the middle of what is left, or where the keys that were seen at its two ends let expect what is sought. All of it is inner.
+#![tactic(auto)]
+
 ghost use Rattle.std.specs.Prelude.{◌≤◌, ◌<◌};
 
 // How many of 65536 parts of `all` n is.
@@ -48,7 +50,7 @@ fn kept(n: usize, least: usize, most: usize) -> usize
 }
 
 // What is left of a search: from `lo` on and before `hi`; and the keys that were seen there, or 0.
-#[derive(Drop)]
+#[derive(Clone, Copy)]
 pub struct Left {
     pub lo: usize,
     pub hi: usize,

@@ -1,4 +1,6 @@
 // A record of a batch by its key: each search goes the way of its file, as `routes` has made it out.
+#![tactic(auto)]
+
 ghost use Rattle.std.specs.Prelude.{◌≡◌, [], ◌∷◌, ◌≤◌, ◌<◌, length};
 ghost use Rattle.keys.specs.Keys.{key_fields, none, first_with};
 ghost use Rattle.keys.specs.Ranks.{IsKeyed};

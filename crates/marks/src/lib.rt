@@ -1,4 +1,6 @@
 // The signs of a trip's stop: whether it has one, and which it has of those that a sale asks for.
+#![tactic(auto)]
+
 ghost use Rattle.std.specs.Prelude.{◌≡◌, [], ℕ, ◌+◌, ◌-◌, ◌≤◌, ◌<◌, length};
 ghost use Rattle.file.specs.Files.{fields_of};
 ghost use Rattle.file.specs.Reader.{Classes};

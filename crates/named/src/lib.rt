@@ -1,4 +1,6 @@
 // A stop's name: three name fields that equal three byte strings, byte for byte; and what an answer about one is.
+#![tactic(auto)]
+
 ghost use Rattle.std.specs.Prelude.{◌≡◌, eqb};
 ghost use Rattle.laws.specs.Tests.{pick};
 ghost use Rattle.field.specs.Names.{stops_file};
@@ -9,7 +11,7 @@ ghost use Rattle.named.specs.Names.{is_named};
 use fault::Fault;
 
 // The answer.
-#[derive(Drop)]
+#[derive(Clone, Copy)]
 pub enum Named {
     // The batch's own refusal.
     Refused(Fault),

@@ -1,4 +1,6 @@
 // A stop by its name: the number of the one stop whose three name fields equal three byte strings, byte for byte.
+#![tactic(auto)]
+
 ghost use Rattle.thirteen.specs.Batch.{thirteen};
 ghost use Rattle.naming.specs.Names.{NameIs};
 

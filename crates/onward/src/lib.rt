@@ -1,5 +1,7 @@
 // The fields of a record, one behind another: each step reads the field that is due at a place, marks where the text behind it starts, and answers where
 // the field behind it is due. 0 is answered where the field is not so.
+#![tactic(auto)]
+
 ghost use Rattle.std.specs.Prelude.{◌≡◌, true, [], ◌+◌, ◌≤◌, ◌<◌, length};
 ghost use Rattle.file.specs.Reader.{Classes};
 ghost use Rattle.field.specs.Kinds.{admits};

@@ -1,5 +1,7 @@
 // Files whose keys rise from record to record: one pass tells, and then a record is found by bisection on the file's bytes, with no memory
 // beside them. All of it is inner.
+#![tactic(auto)]
+
 ghost use Rattle.std.specs.Prelude.{◌≡◌, ◌<◌};
 ghost use Rattle.file.specs.Files.{fields_of};
 ghost use Rattle.file.specs.Records.{records_in};

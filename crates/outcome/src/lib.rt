@@ -1,10 +1,12 @@
 // What the calls on a batch come back with: what the check comes to, whether a trip runs, a trip's stop, a sale.
+#![tactic(auto)]
+
 use boarding::Sold;
 use counts::Counts;
 use fault::Fault;
 
 // What the check of a batch comes to.
-#[derive(Drop)]
+#[derive(Clone, Copy)]
 pub enum Verdict {
     // It keeps every rule.
     Accepted(Counts),
@@ -13,7 +15,7 @@ pub enum Verdict {
 }
 
 // Whether a trip runs on a day.
-#[derive(Drop)]
+#[derive(Clone, Copy)]
 pub enum Running {
     // The batch's own refusal.
     Refused(Fault),
@@ -28,7 +30,7 @@ pub enum Running {
 }
 
 // A trip's stop, in numbers: 1 for yes and 0 for no, minutes of the day or 0, signs as a sum, and how many stops the trip has.
-#[derive(Drop)]
+#[derive(Clone, Copy)]
 pub struct Halt {
     pub tariff: u64,
     pub stop: u64,
@@ -42,7 +44,7 @@ pub struct Halt {
 }
 
 // A trip's nth stop.
-#[derive(Drop)]
+#[derive(Clone, Copy)]
 pub enum Stop {
     // The batch's own refusal; or 20, the trip has no such stop.
     Refused(Fault),
@@ -53,7 +55,7 @@ pub enum Stop {
 }
 
 // A sale, on any batch.
-#[derive(Drop)]
+#[derive(Clone, Copy)]
 pub enum Sale {
     // The batch's own refusal.
     Refused(Fault),

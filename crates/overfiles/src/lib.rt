@@ -1,4 +1,6 @@
 // The first fault over the files of a batch, in each of three passes: 1; 2 and 3; 5 and 6.
+#![tactic(auto)]
+
 ghost use Rattle.std.specs.Prelude.{◌≡◌};
 ghost use Rattle.field.specs.Stage.{field_fault};
 ghost use Rattle.thirteen.specs.Batch.{thirteen, records_of, over_files};

@@ -1,5 +1,7 @@
 // The parts of the hint of a batch: where the records of each keyed file start, in order of their keys, for the files whose keys don't rise by
 // themselves, one file behind the other.
+#![tactic(auto)]
+
 ghost use Rattle.std.specs.Prelude.{◌≡◌, ◌+◌, ◌≤◌, length};
 ghost use Rattle.laws.specs.Splice.{splice};
 ghost use Rattle.file.specs.Files.{fields_of, longest};

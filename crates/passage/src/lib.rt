@@ -1,5 +1,7 @@
 // A file gone through once: its bytes, the kinds and rules of its records, whether their keys rise, and their links and signs, which are looked up
 // in a batch whose files stand already. What is wrong, and where, is not said.
+#![tactic(auto)]
+
 ghost use Rattle.std.specs.Prelude.{◌≡◌, true, ◌≤◌, length};
 ghost use Rattle.file.specs.Reader.{Classes};
 ghost use Rattle.field.specs.Rules.{meets};

@@ -1,5 +1,7 @@
 // What a time code asks of a day (document 01, "Days"): odd and even weeks, periods. All of it is inner: what each function means is
 // its definition in specs/Periods.antt.
+#![tactic(auto)]
+
 ghost use Rattle.std.specs.Prelude.{◌≡◌, ◌≤◌};
 ghost use Rattle.periods.specs.Periods.{parity_fits, period_holds};
 

@@ -1,4 +1,6 @@
 // What the check program's line is made of: document 01, "The check program and the desk host". Each text and each number is laid behind the last.
+#![tactic(auto)]
+
 ghost use Rattle.std.specs.Prelude.{◌≡◌, ◌+◌, ◌≤◌, length};
 ghost use Rattle.laws.specs.Splice.{splice};
 ghost use Rattle.phrase.specs.Phrases.{labelled, accepted_line, refused_line};
@@ -41,7 +43,7 @@ pub fn lay_accepted(stops: u64, lines: u64, trips: u64, trip_stops: u64, d: &mut
 }
 
 // A fault's number and place.
-#[derive(Drop)]
+#[derive(Clone, Copy)]
 pub struct Place {
     pub number: u64,
     pub file: u64,

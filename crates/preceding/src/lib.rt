@@ -1,5 +1,7 @@
 // The record of a trip that comes before some number in key order, in three ways that meet one promise, `previous_of`, as `following` has it for
 // the next one: where keys rise, the line before the first record that is not below; else the entry before it in a lent index; else every record.
+#![tactic(auto)]
+
 ghost use Rattle.std.specs.Prelude.{◌≡◌, ◌≤◌, ◌<◌, length};
 ghost use Rattle.file.specs.Files.{fields_of};
 ghost use Rattle.file.specs.Records.{records_in};

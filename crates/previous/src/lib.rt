@@ -1,5 +1,7 @@
 // The looks of a search for the record of a trip that comes before some number in key order: the key to look for, the number of one record, the
 // start of the line before. `preceding` makes the search of them.
+#![tactic(auto)]
+
 ghost use Rattle.std.specs.Prelude.{◌≡◌, ◌+◌, ◌*◌, ◌-◌, ◌≤◌, ◌<◌, eqb, ltb, length, get_or};
 ghost use Rattle.laws.specs.Tests.{pick, both};
 ghost use Rattle.keys.specs.Keys.{key_fields, none};

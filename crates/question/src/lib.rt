@@ -1,4 +1,6 @@
 // One sale question among many, as the seven numbers that ask it, and its answer as three.
+#![tactic(auto)]
+
 ghost use Rattle.std.specs.Prelude.{◌≡◌, [], ◌∷◌, ◌+◌, ◌≤◌, leb, length};
 ghost use Rattle.boarding.specs.Answers.{numbered_sold};
 ghost use Rattle.asking.specs.Rows.{row};
@@ -8,7 +10,7 @@ use asking::Row;
 use boarding::Sold;
 
 // What is asked.
-#[derive(Drop)]
+#[derive(Clone, Copy)]
 pub struct Question {
     pub line: u64,
     pub trip: u64,

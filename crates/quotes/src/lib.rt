@@ -1,4 +1,6 @@
 // Where a text stops: its plain bytes are skipped by their class, and at a quote it is seen whether a field ends there.
+#![tactic(auto)]
+
 ghost use Rattle.std.specs.Prelude.{◌≡◌, ◌≤◌, ◌<◌, length, drop};
 ghost use Rattle.file.specs.Bytes.{ends, goes, closes, plain_run, permitted_text};
 ghost use Rattle.file.specs.Reader.{Classes, Reached};

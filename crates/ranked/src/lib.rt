@@ -1,1 +1,2 @@
 // Theorems alone: numbers in order of their ranks, and heaps of them.
+#![tactic(auto)]

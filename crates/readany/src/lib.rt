@@ -1,5 +1,7 @@
 // A record of any file, its bytes read field by field, each by its kind, so that a number's are looked at once; the places of its texts are marked. What is
 // wrong, and where, is not said: 0 is answered, which is no place behind a byte.
+#![tactic(auto)]
+
 ghost use Rattle.std.specs.Prelude.{◌≡◌, ◌≤◌, length};
 ghost use Rattle.file.specs.Reader.{Classes};
 ghost use Rattle.readany.specs.Reads.{LineTo, ReadTo};

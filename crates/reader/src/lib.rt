@@ -1,4 +1,6 @@
 // The number of a file's records, and the stretch of one field: document 01, "Bytes of a file". Nothing is copied.
+#![tactic(auto)]
+
 ghost use Rattle.std.specs.Prelude.{◌≡◌, ◌<◌, length};
 ghost use Rattle.file.specs.Fields.{closing, next_field};
 ghost use Rattle.file.specs.Reader.{Classes, Sought, OpensAt, Inside, text_after, Reads, text_in};

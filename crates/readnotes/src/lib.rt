@@ -1,5 +1,7 @@
 // The readers of Udaje, Caskody, Altdop and Mistenky: what is noted of lines and trips. Each knows the kinds of its file and reads a record as
 // `read_any` does.
+#![tactic(auto)]
+
 ghost use Rattle.std.specs.Prelude.{◌≡◌, ◌≤◌, length};
 ghost use Rattle.file.specs.Reader.{Classes};
 ghost use Rattle.field.specs.Kinds.{kind_of};

@@ -1,5 +1,7 @@
 // The readers of Zastavky, Spoje, Zaslinky and Zasspoje: of stops, trips, and where and when these call. Each knows the kinds of its file and reads a record
 // as `read_any` does.
+#![tactic(auto)]
+
 ghost use Rattle.std.specs.Prelude.{◌≡◌, ◌≤◌, length};
 ghost use Rattle.file.specs.Reader.{Classes};
 ghost use Rattle.onward.specs.Onward.{Due};

@@ -1,5 +1,7 @@
 // Links that were found to be met are remembered in a table of numbers: most records link to what one shortly before linked to. What is
 // remembered is only that nothing is wrong; where something may be, the field is looked at as `flaw` does.
+#![tactic(auto)]
+
 ghost use Rattle.std.specs.Prelude.{◌≡◌, true, ◌≤◌, ◌<◌};
 ghost use Rattle.file.specs.Files.{fields_of};
 ghost use Rattle.field.specs.Names.{field};

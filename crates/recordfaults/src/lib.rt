@@ -1,4 +1,6 @@
 // What was found in the records of a batch, 7 to 11, as a fault of the batch.
+#![tactic(auto)]
+
 ghost use Rattle.std.specs.Prelude.{◌≡◌};
 ghost use Rattle.link.specs.Stage.{numbered_linked};
 ghost use Rattle.trips.specs.Answers.{numbered_timed};

@@ -1,5 +1,7 @@
 // The trips of an accepted batch one by one, in Spoje order: how many there are, where the nth stands, its line and number; and a trip's stop by its
 // tariff number. From one trip to the next goes `lines::line_after`.
+#![tactic(auto)]
+
 ghost use Rattle.std.specs.Prelude.{◌≡◌, [], ◌∷◌, ◌<◌, length};
 ghost use Rattle.file.specs.Files.{fields_of};
 ghost use Rattle.file.specs.Reader.{Classes};
@@ -20,7 +22,7 @@ use tally::count;
 use walk::{Found, cut, part};
 
 // A trip's line and number.
-#[derive(Drop)]
+#[derive(Clone, Copy)]
 pub struct Name {
     pub line: u64,
     pub trip: u64,

@@ -1,4 +1,6 @@
 // The ways to the records of a batch's keyed files, made out once: by rising keys, by a part of the lent list, or record by record.
+#![tactic(auto)]
+
 ghost use Rattle.std.specs.Prelude.{◌≤◌, length};
 ghost use Rattle.keys.specs.KeyFiles.{KeyFile};
 ghost use Rattle.thirteen.specs.Batch.{thirteen};
@@ -10,7 +12,7 @@ use tally::count;
 use thirteen::file_of;
 
 // The way to a file's records, and where the next file's part of the list begins.
-#[derive(Drop)]
+#[derive(Clone, Copy)]
 struct Route {
     how: usize,
     from: usize,

@@ -1,5 +1,7 @@
 // Document 01, "Rules inside one record (refusal 6)": whether a record that was cut, all of whose fields are of their kinds, meets the
 // rules of its file. Fields count from 1, and texts from 0: field 7 is text 6.
+#![tactic(auto)]
+
 ghost use Rattle.std.specs.Prelude.{◌≡◌};
 ghost use Rattle.field.specs.Names.{stops_file, firms_file, lines_file, trip_stops_file, time_codes_file, alternatives_file, first_carrier_code, carrier_codes};
 ghost use Rattle.field.specs.Rules.{stop_rule, firm_rule, line_rule, time_code_rule, any_given, carrier_rule, trip_stop_rule, meets};

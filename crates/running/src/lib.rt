@@ -1,5 +1,7 @@
 // A trip's days: document 01, "Days". Its record of Spoje was cut; its time codes are walked through once, as `timecodes` does, and the signs of its
 // codes are looked at as `daysigns` does.
+#![tactic(auto)]
+
 ghost use Rattle.std.specs.Prelude.{◌≡◌, ◌≤◌, ◌<◌};
 ghost use Rattle.file.specs.Files.{fields_of};
 ghost use Rattle.file.specs.Reader.{Classes};
@@ -19,7 +21,7 @@ use daysigns::{has_day_sign, signs_allow};
 use timecodes::{held_on, types_of};
 
 // Whether a trip's days fit, and where the last of its time codes stands, with the last entry of an index that was looked at.
-#[derive(Drop)]
+#[derive(Clone, Copy)]
 pub struct Days {
     pub fit: bool,
     pub last: usize,

@@ -1,4 +1,6 @@
 // The sale question: may this trip be sold from this stop to that one on this date, and at what times? Exactly, or with one numbered refusal.
+#![tactic(auto)]
+
 ghost use Rattle.thirteen.specs.Batch.{thirteen};
 ghost use Rattle.selling.specs.Answers.{SaleIs};
 

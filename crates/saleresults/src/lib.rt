@@ -1,4 +1,6 @@
 // What C is handed of the counter's answers: number and place, and the answer's values, 0 where there is none.
+#![tactic(auto)]
+
 ghost use Rattle.std.specs.Prelude.{◌≡◌};
 ghost use Rattle.boarding.specs.Answers.{numbered_sold};
 ghost use Rattle.outcome.specs.Answers.{numbered_sale};
@@ -13,7 +15,7 @@ use named::Named;
 use outcome::Sale;
 
 #[repr(C)]
-#[derive(Drop)]
+#[derive(Clone, Copy)]
 pub struct SaleResult {
     pub number: u64,
     pub file: u64,
@@ -25,7 +27,7 @@ pub struct SaleResult {
 }
 
 #[repr(C)]
-#[derive(Drop)]
+#[derive(Clone, Copy)]
 pub struct SalesResult {
     pub number: u64,
     pub file: u64,
@@ -36,7 +38,7 @@ pub struct SalesResult {
 }
 
 #[repr(C)]
-#[derive(Drop)]
+#[derive(Clone, Copy)]
 pub struct StopResult {
     pub number: u64,
     pub file: u64,

@@ -1,4 +1,6 @@
 // Many sale questions on one batch, which is checked once.
+#![tactic(auto)]
+
 ghost use Rattle.thirteen.specs.Batch.{thirteen};
 ghost use Rattle.selling.specs.Sales.{SalesIs};
 

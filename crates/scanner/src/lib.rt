@@ -1,5 +1,7 @@
 // The scan of a file, field by field: document 01, "Bytes of a file". It answers what the reading of file's specs/Reading.antt comes to, byte by byte, and
 // copies nothing.
+#![tactic(auto)]
+
 ghost use Rattle.std.specs.Prelude.{◌≡◌, true, ◌≤◌, ◌<◌, ltb, length, drop};
 ghost use Rattle.file.specs.Bytes.{starts};
 ghost use Rattle.file.specs.Fields.{ahead_at, ahead_from, halt};

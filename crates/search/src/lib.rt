@@ -1,5 +1,7 @@
 // A record by its key, in three ways that meet one promise, the first record whose key has the rank: where keys rise, the place that was found last and
 // the one behind it are tried, then bisection; by a lent index; record by record. Which of them serves is seen in the crate `find`.
+#![tactic(auto)]
+
 ghost use Rattle.std.specs.Prelude.{◌≡◌, ◌<◌};
 ghost use Rattle.file.specs.Files.{fields_of};
 ghost use Rattle.file.specs.Records.{records_in};

@@ -1,5 +1,7 @@
 // The first entry of an index whose key isn't below one that is sought. An index is a lent list that was looked at (`hinted`): where the records of a file
 // start, in the order of their keys. All of it is inner.
+#![tactic(auto)]
+
 ghost use Rattle.std.specs.Prelude.{◌≡◌, ◌-◌, ◌≤◌, ◌<◌, ltb, length};
 ghost use Rattle.keys.specs.Keys.{none};
 ghost use Rattle.keys.specs.Ranks.{KeyIs, rank_key};

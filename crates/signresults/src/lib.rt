@@ -1,5 +1,7 @@
 // What C is handed of the calendar's calls on weeks, holidays and day signs (document 01, "Days"). Each result's `number` is 0 for an answer and 12 for a refusal,
 // and the other fields are then the answer's values, or 0 with a refusal.
+#![tactic(auto)]
+
 ghost use Rattle.std.specs.Prelude.{◌≡◌};
 ghost use Rattle.laws.specs.Tests.{bit};
 ghost use Rattle.signresults.specs.Results.{WeekGives, HolidayGives, FitsGives};
@@ -7,7 +9,7 @@ ghost use Rattle.signresults.specs.Results.{WeekGives, HolidayGives, FitsGives};
 use calendar::{Week, Whether};
 
 #[repr(C)]
-#[derive(Drop)]
+#[derive(Clone, Copy)]
 pub struct WeekResult {
     pub number: u64,
     pub week: u64,
@@ -15,14 +17,14 @@ pub struct WeekResult {
 }
 
 #[repr(C)]
-#[derive(Drop)]
+#[derive(Clone, Copy)]
 pub struct HolidayResult {
     pub number: u64,
     pub holiday: u64,
 }
 
 #[repr(C)]
-#[derive(Drop)]
+#[derive(Clone, Copy)]
 pub struct FitsResult {
     pub number: u64,
     pub fits: u64,

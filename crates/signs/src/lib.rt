@@ -1,5 +1,7 @@
 // What fits a day (document 01, "Days"): holidays and day signs. All of it is inner: what each function means is its definition in
 // specs/Signs.antt.
+#![tactic(auto)]
+
 ghost use Rattle.std.specs.Prelude.{◌≡◌};
 ghost use Rattle.signs.specs.Signs.{is_holiday, is_day_sign, is_workday, is_restday, sign_fits};
 

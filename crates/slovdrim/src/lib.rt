@@ -1,4 +1,6 @@
 // The C interface of the library: every exported function, thin.
+#![tactic(auto)]
+
 mod batches; // batches.rt: the check of a batch
 mod checks; // checks.rt: the fields and rules of a file
 mod days; // days.rt: dates, day numbers, weekdays, weeks, holidays, day signs

@@ -1,6 +1,8 @@
 // The check of a batch whose keys rise, each file gone through once: none of 1 to 9 is found. Only that nothing is wrong is said
 // here; where something may be, or where keys don't rise, the files are gone through stage by stage as document 01 orders. A file comes behind those
 // that it links to: first Pevnykod and Dopravci, then Zastavky and Linky, then Spoje and Zaslinky, then the others.
+#![tactic(auto)]
+
 ghost use Rattle.std.specs.Prelude.{◌≡◌, true, ◌≤◌, length};
 ghost use Rattle.file.specs.Reader.{Classes};
 ghost use Rattle.thirteen.specs.Batch.{thirteen};

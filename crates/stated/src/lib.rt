@@ -1,5 +1,7 @@
 // Document 01's rules inside one record that are on what it has to state: the district, a name, times and kilometres, asked of texts. All of it is inner:
 // what each function means is its definition in the crate field, specs/Rules.antt.
+#![tactic(auto)]
+
 ghost use Rattle.std.specs.Prelude.{◌≡◌};
 ghost use Rattle.laws.specs.Tests.{both, one_of};
 ghost use Rattle.field.specs.Values.{is_empty, given, is_byte, is_time};

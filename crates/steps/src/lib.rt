@@ -1,4 +1,6 @@
 // A trip's records one after another, by their numbers: where a walk begins, and where it goes on, with no search where none is needed.
+#![tactic(auto)]
+
 ghost use Rattle.std.specs.Prelude.{◌≡◌, true, ℕ, ◌<◌, length};
 ghost use Rattle.file.specs.Files.{fields_of};
 ghost use Rattle.file.specs.Records.{records_in};

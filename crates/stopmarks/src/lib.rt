@@ -1,9 +1,11 @@
 // The marks of a stop, which are those of its signs that a sale asks for: one more sign comes, or a `$` of the line's stop.
+#![tactic(auto)]
+
 ghost use Rattle.std.specs.Prelude.{◌≡◌, eqb};
 ghost use Rattle.laws.specs.Tests.{one_of};
 
 // Which signs a stop has, of those that a sale asks for.
-#[derive(Drop)]
+#[derive(Clone, Copy)]
 pub struct Marks {
     // `$`
     pub dollar: bool,

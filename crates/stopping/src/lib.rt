@@ -1,4 +1,6 @@
 // A trip's nth stop in travel order, on a batch that stands: its tariff number, its stop, its times, its signs.
+#![tactic(auto)]
+
 ghost use Rattle.std.specs.Prelude.{◌≡◌, not, ◌<◌, length, drop};
 ghost use Rattle.laws.specs.Tests.{pick, both, one_of};
 ghost use Rattle.file.specs.Files.{fields_of};

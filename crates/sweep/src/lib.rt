@@ -1,5 +1,7 @@
 // One pass over a file that sees whether it is legal and sound: document 01's 2, 3, 5 and 6, where there are none. Each record is read by its file's
 // reader, if it has one of its own, as those have that are long; the record's rules are tried while it is at hand. What is wrong, and where, is not said.
+#![tactic(auto)]
+
 ghost use Rattle.std.specs.Prelude.{◌≡◌, true, ◌≤◌, length};
 ghost use Rattle.file.specs.Reader.{Classes};
 ghost use Rattle.readany.specs.Reads.{ReadTo};

@@ -1,5 +1,7 @@
 // The link of a field as one number, its tag: what it asks for, and by which numbers. Fields with one tag ask for the same, so what was found for one
 // of them holds for all; `recall` remembers it by that number.
+#![tactic(auto)]
+
 ghost use Rattle.std.specs.Prelude.{◌≡◌, ◌+◌, ◌≤◌, ◌<◌, length};
 ghost use Rattle.file.specs.Files.{fields_of};
 ghost use Rattle.field.specs.Names.{field};

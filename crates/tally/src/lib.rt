@@ -1,5 +1,7 @@
 // How many records a file has, by its LFs: LF can't stand in a text, so a legal file has one for each record, its last byte. LFs are counted at the
 // speed of memory, where a walk from record to record is a step for each. All of it is inner.
+#![tactic(auto)]
+
 ghost use Rattle.std.specs.Prelude.{◌≡◌, ◌≤◌, length};
 ghost use Rattle.file.specs.Files.{fields_of};
 ghost use Rattle.file.specs.Records.{records_in};

@@ -1,5 +1,7 @@
 // The links of every field, and the signs that are permitted in each file's codes: document 01's tables as matches on the file's and the
 // field's number.
+#![tactic(auto)]
+
 ghost use Rattle.std.specs.Prelude.{◌≡◌, ◌∷◌, get_or};
 ghost use Rattle.link.specs.Links.{zastavky, linky, spoje, zaslinky, zasspoje, udaje, caskody, altdop, altlinky, mistenky, links_in, link_of};
 ghost use Rattle.link.specs.Signs.{is_in, is_permitted};

@@ -1,4 +1,6 @@
 // The thirteen files of a batch: document 01, "The batch". They are lent as thirteen slices of one lifetime.
+#![tactic(auto)]
+
 ghost use Rattle.std.specs.Prelude.{◌≡◌};
 ghost use Rattle.thirteen.specs.Batch.{thirteen, file_in};
 

@@ -1,4 +1,6 @@
 // The sale question on a batch that stands: may this trip be sold from this stop to that one on this date, and at what times?
+#![tactic(auto)]
+
 ghost use Rattle.std.specs.Prelude.{◌≡◌, true, [], ◌∷◌, ◌≤◌, ◌<◌, length};
 ghost use Rattle.file.specs.Files.{fields_of};
 ghost use Rattle.file.specs.Reader.{Classes};

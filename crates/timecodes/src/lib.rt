@@ -1,4 +1,6 @@
 // A trip's time codes, walked through in Caskody: their types and marks, and those that hold a day.
+#![tactic(auto)]
+
 ghost use Rattle.std.specs.Prelude.{◌≡◌, true, false, ◌≤◌, ◌<◌, length, set};
 ghost use Rattle.laws.specs.Tests.{pick, one_of};
 ghost use Rattle.file.specs.Files.{fields_of};
@@ -18,14 +20,14 @@ use clip::cut;
 use steps::{first_step, step_on};
 
 // The marks of the time codes that have come: the value of the first that has a type, 0 if none has come; and whether another came.
-#[derive(Drop)]
+#[derive(Clone, Copy)]
 struct Marks {
     first: u64,
     differ: bool,
 }
 
 // Whether the marks of a trip's time codes differ, and where the last of them stands, with the last entry of an index that was looked at.
-#[derive(Drop)]
+#[derive(Clone, Copy)]
 pub struct Types {
     pub differ: bool,
     pub last: usize,

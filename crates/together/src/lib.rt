@@ -1,4 +1,6 @@
 // How many bytes the thirteen files have together: document 01, "The check program and the desk host".
+#![tactic(auto)]
+
 ghost use Rattle.std.specs.Prelude.{◌≡◌, leb};
 ghost use Rattle.thirteen.specs.Batch.{thirteen};
 ghost use Rattle.together.specs.Lengths.{bytes_together};

@@ -1,10 +1,12 @@
 // A trip's stops in travel order, one after another: refusal 11 by one pass that never looks ahead.
+#![tactic(auto)]
+
 ghost use Rattle.std.specs.Prelude.{◌≡◌, not, eqb};
 ghost use Rattle.laws.specs.Tests.{pick, both, one_of};
 ghost use Rattle.track.specs.Track.{set_out, timed_on, untimed_on, track_on, minute_on, time_on, length_on, course_ends};
 
 // What a record says.
-#[derive(Drop)]
+#[derive(Clone, Copy)]
 pub struct Visit {
     // Whether it has an arrival, and its minute of the day.
     pub arrives: bool,
@@ -22,7 +24,7 @@ pub struct Visit {
 }
 
 // How the places of the records have been so far.
-#[derive(Drop)]
+#[derive(Clone, Copy)]
 pub struct Track {
     // How many had a time: 0, 1, or 2 for more.
     pub seen: u64,

@@ -1,4 +1,6 @@
 // One trip of a batch: what is wrong with it, its days or its stops.
+#![tactic(auto)]
+
 ghost use Rattle.std.specs.Prelude.{◌≡◌};
 ghost use Rattle.file.specs.Files.{fields_of};
 ghost use Rattle.file.specs.Reader.{Classes};
@@ -18,7 +20,7 @@ use walk::part;
 
 // What is wrong with a trip, 10, 11 or 0, and where its last time code and its last stop stand, each with the entry of an index that was looked
 // at last: the next trip's are looked for there first.
-#[derive(Drop)]
+#[derive(Clone, Copy)]
 pub struct Tried {
     pub fault: u64,
     pub code: usize,

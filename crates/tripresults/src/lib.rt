@@ -1,4 +1,6 @@
 // What C is handed of the questions about a batch's trips: number and place, and the answer's values, 0 where there is none.
+#![tactic(auto)]
+
 ghost use Rattle.std.specs.Prelude.{◌≡◌};
 ghost use Rattle.outcome.specs.Answers.{numbered_runs, numbered_stop};
 ghost use Rattle.tripresults.specs.Results.{runs_result, plain_runs_result, stop_result, plain_stop_result};
@@ -7,7 +9,7 @@ use checkresults::handed;
 use outcome::{Running, Stop};
 
 #[repr(C)]
-#[derive(Drop)]
+#[derive(Clone, Copy)]
 pub struct RunsResult {
     pub number: u64,
     pub file: u64,
@@ -18,7 +20,7 @@ pub struct RunsResult {
 }
 
 #[repr(C)]
-#[derive(Drop)]
+#[derive(Clone, Copy)]
 pub struct TripStopResult {
     pub number: u64,
     pub file: u64,

@@ -1,4 +1,6 @@
 // Whether a trip runs on a day: document 01, "Days", on a batch that stands.
+#![tactic(auto)]
+
 ghost use Rattle.std.specs.Prelude.{◌≡◌, true, [], ◌∷◌, ◌≤◌, ◌<◌, length};
 ghost use Rattle.file.specs.Files.{fields_of};
 ghost use Rattle.file.specs.Reader.{Classes};

@@ -1,4 +1,6 @@
 // The first trip of a batch, in Spoje order, whose days or stops are wrong: refusals 10 and 11.
+#![tactic(auto)]
+
 ghost use Rattle.std.specs.Prelude.{◌≡◌, true, []};
 ghost use Rattle.laws.specs.Numbered.{answered};
 ghost use Rattle.file.specs.Files.{fields_of};
@@ -17,7 +19,7 @@ use tripfault::{Tried, none_tried, trip_fault};
 use walk::cut;
 
 // What the stage finds.
-#[derive(Drop)]
+#[derive(Clone, Copy)]
 pub enum Timed {
     // Nothing.
     Sound,

@@ -1,4 +1,6 @@
 // The line of a verdict: document 01, "The check program and the desk host". Which numbers it has, and in which order.
+#![tactic(auto)]
+
 ghost use Rattle.std.specs.Prelude.{◌≡◌, ◌≤◌, length};
 ghost use Rattle.laws.specs.Splice.{splice};
 ghost use Rattle.laws.specs.Numbered.{refused_in, refused_at};

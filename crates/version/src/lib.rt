@@ -1,4 +1,6 @@
 // The version of the C interface, which `slovdrim_version` hands on.
+#![tactic(auto)]
+
 ghost use Rattle.version.specs.Version.{VersionGives};
 
 // inner: the number that grows when a call changes or comes.

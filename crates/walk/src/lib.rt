@@ -1,4 +1,6 @@
 // From record to record of a legal file, and the texts of one: document 01, "Bytes of a file". A record is cut once, and nothing is copied.
+#![tactic(auto)]
+
 ghost use Rattle.std.specs.Prelude.{◌≡◌, ◌<◌, length};
 ghost use Rattle.file.specs.Reader.{Classes};
 ghost use Rattle.walk.specs.Walk.{RecordAt, Cuts, Stands, part_of};
@@ -6,7 +8,7 @@ ghost use Rattle.walk.specs.Walk.{RecordAt, Cuts, Stands, part_of};
 use quotes::text_end;
 
 // What a search among a file's records finds.
-#[derive(Drop)]
+#[derive(Clone, Copy)]
 pub enum Found {
     // Where the record starts.
     At(usize),

@@ -1,4 +1,6 @@
 // Weekdays and ISO weeks (document 01, "Days"). All of it is inner: what each function means is its definition in specs/Weeks.antt.
+#![tactic(auto)]
+
 ghost use Rattle.std.specs.Prelude.{◌≡◌, ◌≤◌};
 ghost use Rattle.weeks.specs.Weeks.{weekday, week_of, odd_week, weeks_in};
 

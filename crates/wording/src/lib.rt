@@ -1,4 +1,6 @@
 // The line of the check program: document 01, "The check program and the desk host". That of the verdict, or that there are too many bytes.
+#![tactic(auto)]
+
 ghost use Rattle.std.specs.Prelude.{◌≡◌, ◌≤◌, length};
 ghost use Rattle.laws.specs.Splice.{splice};
 ghost use Rattle.thirteen.specs.Batch.{thirteen};

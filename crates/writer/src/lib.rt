@@ -1,5 +1,7 @@
 // The writer: one field into the middle of a lent buffer. Document 01, "Bytes of a file": a quote, the text, a quote and what follows
 // a field; no other byte changes, and none with a refusal.
+#![tactic(auto)]
+
 ghost use Rattle.std.specs.Prelude.{◌≡◌, ◌∷◌, ◌+◌, ◌≤◌, length};
 ghost use Rattle.laws.specs.Splice.{splice};
 ghost use Rattle.file.specs.Bytes.{quote, permitted_text};

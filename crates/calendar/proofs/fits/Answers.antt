@@ -1,0 +1,15 @@
+-- `fits` meets its promise: what it answers is the definition's, by `is_day` and `sign_fits`.
+use Rattle.calendar.specs.Answers.{numbered_whether, fits_answer}
+use Rattle.calendar.proofs.fits.Goals as goal
+
+pub returns-then-sign_fits : goal.returns-then-sign_fits
+unfolding numbered_whether fits_answer
+returns-then-sign_fits c = rw (← c.is_day.ensures, c.if-is_day.true, ← c.sign_fits.ensures, c.if-sign_fits.true)
+
+pub returns-then-is_day : goal.returns-then-is_day
+unfolding numbered_whether fits_answer
+returns-then-is_day c = rw (← c.is_day.ensures, c.if-is_day.true, ← c.sign_fits.ensures, c.if-sign_fits.false)
+
+pub returns : goal.returns
+unfolding numbered_whether fits_answer
+returns c = rw (← c.is_day.ensures, c.if-is_day.false)

@@ -1,0 +1,20 @@
+-- `month_days` meets its contract: February by `leap_year`'s answer, the other months from the table, which has the definition's numbers.
+use mathlib.Core.Path.{sym}
+use Rattle.dates.specs.Dates.{months, month_days}
+use Rattle.dates.specs.Real.{other_month, past_december}
+use Rattle.dates.proofs.month_days.Goals as goal
+
+pub returns-then-leap_year : goal.returns-then-leap_year
+unfolding month_days months
+returns-then-leap_year c = rw (c.if-month-eq2.true, ← c.leap_year.ensures, c.if-leap_year.true)
+
+pub returns-then-month-eq2 : goal.returns-then-month-eq2
+unfolding month_days months
+returns-then-month-eq2 c = rw (c.if-month-eq2.true, ← c.leap_year.ensures, c.if-leap_year.false)
+
+pub returns-then-month-lt13 : goal.returns-then-month-lt13
+unfolding month_days months
+returns-then-month-lt13 c = sym (other_month _ _ c.if-month-eq2.false)
+
+pub returns-else-month-lt13 : goal.returns-else-month-lt13
+returns-else-month-lt13 c = sym (past_december _ _ c.if-month-lt13.false)

@@ -1,0 +1,12 @@
+-- `phrase::lay` meets its contract. The loop's invariant: the first `i` bytes of the text are laid, and nothing else.
+use mathlib.Core.Path.{◌≡◌}
+use Prim.Native.Nat.{◌-◌, ◌≤◌}
+use lib.ListN.{length, take}
+use Rattle.laws.specs.Splice.{splice}
+use Rattle.phrase.proofs.lay.Given as goal
+
+abbrev pub invariant-loop-i : goal.invariant-loop-i
+invariant-loop-i l = (l.i ≤ length l.t) × (l.d ≡ splice l.initial.d l.at (take l.i l.t)) × (length l.d ≡ length l.initial.d)
+
+abbrev pub decreases-loop-i : goal.decreases-loop-i
+decreases-loop-i l = length l.t - l.i

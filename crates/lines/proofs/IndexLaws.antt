@@ -1,6 +1,6 @@
 -- Where records start, when a list of places is an index, and what an index says of records by rank.
 use Prim.Native.Nat.{ℕ, zero, suc, ◌+◌, ◌-◌, ◌^◌, ◌≤◌, ◌<◌}
-use mathlib.Core.Path.{◌≡◌, refl, sym, ap, ◌∙◌}
+use mathlib.Core.Path.{◌≡◌, refl, sym, ap, subst, ◌∙◌}
 use mathlib.Core.Logic.{inl, inr, ⊎_elim}
 use mathlib.Core.Bool.{false}
 use mathlib.Core.List.{List, [], ◌∷◌, ◌++◌}
@@ -28,7 +28,7 @@ unfolding In starts_from written
 in_starts at [] b rs = inl (omega arith)
 in_starts at (r ∷ a) b rs =
     let e : at + length (written (r ∷ a)) ≡ at + length (written_record r) + length (written a) = omega (arith, size_cons r a) in
-    inr (rw e (in_starts (at + length (written_record r)) a b rs))
+    inr (subst (λ (x : ℕ). In x (starts_from (at + length (written_record r)) (a ++ b ∷ rs))) (sym e) (in_starts (at + length (written_record r)) a b rs))
 
 length_starts : (at : ℕ) (rs : List Fields) → length (starts_from at rs) ≡ length rs
 unfolding starts_from

@@ -32,7 +32,7 @@ module _ (rank : Fields → ℕ) where
   above_none : (k at : ℕ) (rs : List Fields) → Above rank k rs → first_ranked rank k at rs ≡ Nothing
   unfolding Above first_ranked
   above_none k at [] h = refl
-  above_none k at (r ∷ rs) h = rw (ne_eqb (rank r) k (λ e. omega arith)) (above_none k _ rs h.1)
+  above_none k at (r ∷ rs) h = rw (ne_eqb (rank r) k (λ e. omega arith)) (above_none k (at + length (written_record r)) rs h.1)
 
   -- the records behind others whose ranks rise with them
   pub tail_rising : (a b : List Fields) → Rising rank (a ++ b) → Rising rank b

@@ -15,8 +15,8 @@ loop-left-init c =
     let a = c.args in
     (c.requires.1.some, left_first a.n a.s.now a.others c.requires.1)
 
-pub overflow_add-at : goal.overflow_add-at
-overflow_add-at c =
+pub overflow_add-at-in-loop-left : goal.overflow_add-at-in-loop-left
+overflow_add-at-in-loop-left c =
     let sum : c.text_end.result + c.closing_size.result
     ≡ end_of c.args.s.now (c.loop-left.at + 1) + length (closing (is_last c.args.n c.loop-left.field)) =
     omega (arith, c.text_end.ensures.place, c.closing_size.ensures) in
@@ -37,16 +37,16 @@ returns c =
     let a = c.args in
     left_none a.n a.s.now a.others c.loop-left.at c.loop-left.field c.loop-left.left c.loop-left.invariant.1 c.loop-left-test.false
 
-pub overflow_add-at : goal.overflow_add-at
-overflow_add-at c =
-    let inside : c.loop-left.at < length c.args.s.now =
-    let a = c.args in
-    (left_ahead a.n a.s.now a.others c.loop-left.at c.loop-left.field c.loop-left.left c.loop-left.invariant.1).within in
-    omega (arith, inside)
-
 pub text_end-requires : goal.text_end-requires
 text_end-requires c =
     let inside : c.loop-left.at < length c.args.s.now =
     let a = c.args in
     (left_ahead a.n a.s.now a.others c.loop-left.at c.loop-left.field c.loop-left.left c.loop-left.invariant.1).within in
     (omega (arith, inside), c.requires.0)
+
+pub overflow_add-at : goal.overflow_add-at
+overflow_add-at c =
+    let inside : c.loop-left.at < length c.args.s.now =
+    let a = c.args in
+    (left_ahead a.n a.s.now a.others c.loop-left.at c.loop-left.field c.loop-left.left c.loop-left.invariant.1).within in
+    omega (arith, inside)

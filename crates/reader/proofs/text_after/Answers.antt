@@ -16,7 +16,7 @@ rest s at = take_all (length s - at) (drop at s) (simp length-drop (omega arith)
 pub returns : goal.returns
 unfolding text_after Inside
 returns c =
-    let o = c.Opening-of in
+    let o = c.opening_of-start in
     let e = c.text_end-size.ensures in
     let s = c.args.s.now in
     let p = rw (rest s (o.result + 1)) at e.place in

@@ -45,7 +45,7 @@ text_after-requires c =
     let g = c.if-f-eq0.false in
     record { from_r = omega arith; to_r = c.if-r-k.false; from_f = omega arith; to_f = c.if-f-n.false } in
     let t = there in
-    sought c.args.n c.args.s.now c.args.k c.args.r c.args.f c.requires t.from-r t.to-r t.from-f t.to-f
+    sought c.args.n c.args.s.now c.args.k c.args.r c.args.f c.requires t.from_r t.to_r t.from_f t.to_f
 
 pub returns : goal.returns
 unfolding numbered_stretch text_after
@@ -56,7 +56,7 @@ returns c =
     record { from_r = omega arith; to_r = c.if-r-k.false; from_f = omega arith; to_f = c.if-f-n.false } in
     let t = there in
     let e = c.text_after.ensures in
-    (ap numbered_stretch e.0 ∙ asked_in c.args.n c.args.s.now c.args.k c.args.r c.args.f c.requires t.from-r t.to-r t.from-f t.to-f, e.1)
+    (ap numbered_stretch e.0 ∙ asked_in c.args.n c.args.s.now c.args.k c.args.r c.args.f c.requires t.from_r t.to_r t.from_f t.to_f, e.1)
 
 pub overflow_sub-rows : goal.overflow_sub-rows
 overflow_sub-rows c =
@@ -64,7 +64,7 @@ overflow_sub-rows c =
     let h = c.if-r-eq0.false in
     let g = c.if-f-eq0.false in
     record { from_r = omega arith; to_r = c.if-r-k.false; from_f = omega arith; to_f = c.if-f-n.false } in
-    let t = there in omega (arith, t.from-r)
+    let t = there in omega (arith, t.from_r)
 
 pub overflow_mul-rows : goal.overflow_mul-rows
 overflow_mul-rows c =
@@ -74,7 +74,7 @@ overflow_mul-rows c =
     record { from_r = omega arith; to_r = c.if-r-k.false; from_f = omega arith; to_f = c.if-f-n.false } in
     let fits : Few c.args.n c.args.s.now c.args.r c.args.f =
     let t = there in
-    few c.args.n c.args.s.now c.args.k c.args.r c.args.f c.requires t.from-r t.to-r t.from-f t.to-f in
+    few c.args.n c.args.s.now c.args.k c.args.r c.args.f c.requires t.from_r t.to_r t.from_f t.to_f in
     let t = fits in omega (arith, t.rows)
 
 pub overflow_sub-f : goal.overflow_sub-f
@@ -83,7 +83,7 @@ overflow_sub-f c =
     let h = c.if-r-eq0.false in
     let g = c.if-f-eq0.false in
     record { from_r = omega arith; to_r = c.if-r-k.false; from_f = omega arith; to_f = c.if-f-n.false } in
-    let t = there in omega (arith, t.from-f)
+    let t = there in omega (arith, t.from_f)
 
 pub overflow_add-rows : goal.overflow_add-rows
 overflow_add-rows c =
@@ -93,5 +93,5 @@ overflow_add-rows c =
     record { from_r = omega arith; to_r = c.if-r-k.false; from_f = omega arith; to_f = c.if-f-n.false } in
     let fits : Few c.args.n c.args.s.now c.args.r c.args.f =
     let t = there in
-    few c.args.n c.args.s.now c.args.k c.args.r c.args.f c.requires t.from-r t.to-r t.from-f t.to-f in
+    few c.args.n c.args.s.now c.args.k c.args.r c.args.f c.requires t.from_r t.to_r t.from_f t.to_f in
     let t = fits in omega (arith, t.has, t.all)

@@ -7,8 +7,8 @@ returns-then-is_timed c = rw (times_are, ← c.is_timed.ensures, c.if-is_timed.t
 
 pub returns-then-is_signed : goal.returns-then-is_signed
 returns-then-is_signed c =
-    rw (times_are, ← c.is_timed.ensures, c.if-is_timed.false, ← c.is_Signed.ensures, c.if-is_signed.true)
+    rw (times_are, ← c.is_timed.ensures, c.if-is_timed.false, ← c.is_signed.ensures, c.if-is_signed.true)
 
 pub returns : goal.returns
 returns c =
-    rw (times_are, ← c.is_timed.ensures, c.if-is_timed.false, ← c.is_Signed.ensures, c.if-is_signed.false) c.is_signed-2.ensures
+    rw (times_are, ← c.is_timed.ensures, c.if-is_timed.false, ← c.is_signed.ensures, c.if-is_signed.false) c.is_signed-2.ensures

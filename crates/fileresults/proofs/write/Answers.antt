@@ -1,0 +1,18 @@
+-- `fileresults::write` hands on what the writer answers, case by case, and leaves in the buffer what the writer leaves there.
+use mathlib.Core.Path.{ap, ◌∙◌}
+use Rattle.file.specs.Answers.{numbered_written}
+use Rattle.fileresults.specs.Results.{write_result}
+use Rattle.fileresults.proofs.RefusedLaws.{write_at, refused_write}
+use Rattle.fileresults.proofs.write.Goals as goal
+
+pub returns-in-Next : goal.returns-in-Next
+unfolding numbered_written write_result
+returns-in-Next c =
+    let w = c.write in
+    (rw (← w.ensures.0, c.in-Next.is), w.ensures.1)
+
+pub returns-in-Refused : goal.returns-in-Refused
+unfolding numbered_written
+returns-in-Refused c =
+    let w = c.write in
+    (rw (← w.ensures.0, c.in-Refused.is) (ap write_at c.place_of-p.ensures ∙ refused_write c.in-Refused.why), w.ensures.1)

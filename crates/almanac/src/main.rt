@@ -5,12 +5,7 @@
 ghost use Rattle.std.specs.Prelude.{◌≤◌};
 
 use calendar::{Day, DayOfWeek, Week};
-
-// A number and the byte behind it.
-fn put(n: u64, after: u8) {
-    io::print_decimal(1, n);
-    io::write_all(1, &[after]);
-}
+use std::io;
 
 // The number of a date, 0 where it isn't real.
 fn number(day: u64, month: u64, year: u64) -> u64 {
@@ -20,6 +15,7 @@ fn number(day: u64, month: u64, year: u64) -> u64 {
     }
 }
 
+// The day of the week of a day, 0 where there is none.
 fn weekday(n: u64) -> u64 {
     match calendar::weekday_of(n) {
         DayOfWeek::Is(w) => w,
@@ -27,6 +23,7 @@ fn weekday(n: u64) -> u64 {
     }
 }
 
+// The number of a day's week, 0 where there is none.
 fn week(n: u64) -> u64 {
     match calendar::week_of(n) {
         Week::Counted(w, _) => w,
@@ -34,24 +31,23 @@ fn week(n: u64) -> u64 {
     }
 }
 
-fn line(year: u64)
+// Writes the line of a year.
+fn line(rt: &impl Print, year: u64) -> io::Result<()>
     requires { (1900 ≤ year) × (year ≤ 2099) }
 {
     let first = number(1, 1, year);
     let last = number(31, 12, year);
-    put(year, b' ');
-    put(first, b' ');
-    put(weekday(first), b' ');
-    put(dates::year_days(year), b' ');
-    put(weeks::weeks_in(year), b' ');
-    put(week(first), b' ');
-    put(week(last), b'\n');
+    let weekday = weekday(first);
+    let days = dates::year_days(year);
+    let weeks = weeks::weeks_in(year);
+    let first_week = week(first);
+    let last_week = week(last);
+    println!(rt; "{year} {first} {weekday} {days} {weeks} {first_week} {last_week}")
 }
 
-fn main() {
-    let mut year: u64 = 1900;
-    while year <= 2099 {
-        line(year);
-        year += 1;
+fn main(rt: HostRuntime) -> io::Result<()> {
+    for year in 1900..=2099 {
+        line(&rt, year)?;
     }
+    Ok(())
 }

@@ -6,9 +6,10 @@ ghost use Rattle.buffer.specs.Buffer.{Stand, part_of};
 
 use filenames::read_numbered;
 use loading::Filled;
+use std::rt::Files;
 
 // inner: reads all files, one behind the other; `ends[file]` is the place after each. Whether each was read.
-pub fn gather(buf: &mut [u8], ends: &mut [usize; 14]) -> bool
+pub fn gather(rt: &(impl Files + Eprint), buf: &mut [u8], ends: &mut [usize; 14]) -> bool
     requires { 14 ≤ length ends.old }
     ensures { result ≡ true → Stand 13 (length buf.old) ends.new }
 {
@@ -17,7 +18,7 @@ pub fn gather(buf: &mut [u8], ends: &mut [usize; 14]) -> bool
     ends[file] = at;
     while file < 13 {
         file += 1;
-        let filled = read_numbered(file, buf, at);
+        let filled = read_numbered(rt, file, buf, at);
         let Filled::To(next) = filled else {
             return false;
         };

@@ -9,6 +9,7 @@ ghost use Rattle.buffer.specs.Buffer.{Stand, parts_of};
 ghost use Rattle.wording.specs.Line.{program_line};
 
 use buffer::{gather, part};
+use std::io;
 use together::MOST;
 use wording::program_line;
 
@@ -38,15 +39,14 @@ fn line<'a>(buf: &'a [u8], ends: &[usize; 14], d: &mut [u8]) -> usize
     )
 }
 
-fn main() {
+// Reads, judges and writes the line. A file that can't be read is reported by then, and no line follows.
+fn main(rt: HostRuntime) -> io::Result<()> {
     let mut space = [0u8; SPACE];
     let mut ends = [0usize; 14];
-    if !gather(&mut space, &mut ends) {
-        return;
+    if !gather(&rt, &mut space, &mut ends) {
+        return Ok(());
     }
     let mut text = [0u8; 134];
-    let n = line(&space, &ends, &mut text);
-    if !io::write_all(libc::STDOUT_FILENO, &text[..n]) {
-        os::fail(b"standard output");
-    }
+    let length = line(&space, &ends, &mut text);
+    rt.write_all(&text[..length])
 }

@@ -2,11 +2,14 @@
 // as empty. One that is there and can't be read is reported.
 #![tactic(auto)]
 
-ghost use Rattle.std.specs.Prelude.{◌≡◌, ◌≤◌, length, take};
-ghost use Rattle.libc.specs.Io.{Ended};
+ghost use Rattle.std.specs.Prelude.{◌≡◌, ◌≤◌, ◌↔◌, length, take, IfOk, IsOk};
+ghost use Rattle.std.specs.Str.{IsUtf8};
 ghost use Rattle.loading.specs.Reached.{Reached};
 
-use libc::PATH_MAX;
+use std::fs::{File, symlink_metadata};
+use std::io::{Error, ErrorKind, Read};
+use std::rt::Files;
+use std::{io, str};
 
 // What came of reading a file into the buffer.
 #[derive(Clone, Copy)]
@@ -17,78 +20,66 @@ pub enum Filled {
     Failed,
 }
 
-// The name as C reads it.
-fn ended(name: &[u8]) -> [u8; PATH_MAX]
-    ensures { Ended result }
+// The name as text, which a path is. One that isn't text names no file.
+fn path_of(name: &[u8]) -> io::Result<&str>
+    ensures same { IfOk result (λ path. path.now ≡ name.now) }
+    ensures text { IsOk result ↔ IsUtf8 name.now }
 {
-    let mut path = io::buffer();
-    let mut i = 0;
-    while i < name.len() {
-        if i >= PATH_MAX - 1 {
-            break;
-        }
-        path[i] = name[i];
-        i += 1;
-    }
-    path[PATH_MAX - 1] = 0;
-    path
+    str::from_utf8(name).map_err(|_| Error::from(ErrorKind::InvalidFilename))
 }
 
-// Whether a file that could not be opened isn't there. A link to nothing is there.
-fn is_missing(name: &[u8]) -> bool {
-    if os::errno() != libc::ENOENT {
-        return false;
-    }
-    let path = ended(name);
-    let mut text = [0u8; 1];
-    libc::readlink(&path, &mut text) < 0
+// Whether the file of a path that could not be opened isn't there. A link to nothing is there.
+fn is_missing(rt: &impl Files, path: &str, error: Error) -> bool {
+    error.kind() == ErrorKind::NotFound && symlink_metadata(rt, path).is_err()
 }
 
-// Reads until the file ends or the buffer is full. What stands before `from` stays.
-fn fill(fd: i32, buf: &mut [u8], from: usize) -> Filled
+// Reads until the file ends or the buffer is full: the place after what was read. What stands before `from` stays.
+fn fill(file: &mut impl Read, buf: &mut [u8], from: usize) -> io::Result<usize>
     requires { from ≤ length buf.old }
-    ensures { Reached from (length buf.old) result × (take from buf.new ≡ take from buf.old) }
+    ensures { IfOk result (λ next. (from ≤ next) × (next ≤ length buf.old)) × (take from buf.new ≡ take from buf.old) }
 {
     let mut at = from;
     while at < buf.len() {
-        let got = libc::read(fd, &mut buf[at..]);
-        if got < 0 {
-            return Filled::Failed;
-        }
-        let more = io::count(got, &buf[at..]);
+        let more = file.read(&mut buf[at..])?;
         if more == 0 {
-            return Filled::To(at);
+            return Ok(at);
         }
         at += more;
     }
-    Filled::To(at)
+    Ok(at)
 }
 
-// Says of a file that can't be read why.
-fn report(filled: Filled, name: &[u8]) {
-    if let Filled::Failed = filled {
-        os::fail(name);
+// The place after the file of this name, read behind the others. One that is missing counts as empty.
+fn place_after(rt: &impl Files, name: &[u8], buf: &mut [u8], at: usize) -> io::Result<usize>
+    requires { at ≤ length buf.old }
+    ensures { IfOk result (λ next. (at ≤ next) × (next ≤ length buf.old)) × (take at buf.new ≡ take at buf.old) }
+{
+    let path = path_of(name)?;
+    match File::open(rt, path) {
+        Ok(mut file) => fill(&mut file, buf, at),
+        Err(error) if is_missing(rt, path, error) => Ok(at),
+        Err(error) => Err(error),
     }
 }
 
+// Says of a file that can't be read why. Where that can't be written either, nothing more is to be said.
+fn report(rt: &impl Eprint, name: &[u8], error: Error) {
+    let _ = eprintln!(rt; "{}: {error}", name.escape_ascii());
+}
+
 // inner: reads the file of this name behind the others; where the buffer is full there are too many bytes already
-pub fn read_file(name: &[u8], buf: &mut [u8], at: usize) -> Filled
+pub fn read_file(rt: &(impl Files + Eprint), name: &[u8], buf: &mut [u8], at: usize) -> Filled
     requires { at ≤ length buf.old }
     ensures { Reached at (length buf.old) result × (take at buf.new ≡ take at buf.old) }
 {
     if at == buf.len() {
         return Filled::To(at);
     }
-    let fd = os::open_read(name);
-    if fd < 0 {
-        if is_missing(name) {
-            return Filled::To(at);
+    match place_after(rt, name, buf, at) {
+        Ok(next) => Filled::To(next),
+        Err(error) => {
+            report(rt, name, error);
+            Filled::Failed
         }
-        os::fail(name);
-        return Filled::Failed;
     }
-    let filled = fill(fd, buf, at);
-    report(filled, name);
-    libc::close(fd);
-    filled
 }

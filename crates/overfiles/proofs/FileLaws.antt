@@ -35,6 +35,10 @@ is_file_lem file h l = both_true (leb 1 file) (leb file 13) (le-leb 1 file h) (l
 pub some_fields : (file : ℕ) → 1 ≤ file → file ≤ 13 → 1 ≤ fields_of file
 some_fields file h l = file_fields file (is_file_lem file h l)
 
+-- a file's fault
+abbrev pub fault_in : Batch → ℕ → Numbered
+fault_in b = λ file. field_fault file (records_of b file)
+
 -- the file that was chosen by its number
 module _ (b : Batch) (file : ℕ) (s : List ℕ) (e : s ≡ file_in b file) where
   -- it is too long, or not

@@ -4,12 +4,6 @@ use native.Mathlib.Omega.{arith}
 use Rattle.lines.proofs.LineLaws.{Skips, skips}
 use Rattle.lines.proofs.record_after.Goals as goal
 
--- LEFT mul: (λ c. omega (arith, c.before.requires.2))
-
--- LEFT add: (λ c. omega (arith, c.before.requires.2))
-
--- LEFT add-2: (λ c. omega (arith, (skipped c.before).within))
-
 pub line_after-requires : goal.line_after-requires
 line_after-requires c =
     let skipped : Skips c.args.n c.args.s.now c.args.at =

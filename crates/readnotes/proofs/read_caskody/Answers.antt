@@ -1,0 +1,36 @@
+-- `readnotes::read_caskody` meets its contract, field by field.
+use mathlib.Core.Path.{refl}
+use lib.Dec.{lit<, lit≤}
+use Rattle.field.specs.Kinds.{kind_of, kinds, caskody}
+use Rattle.readnotes.proofs.FieldLaws.{first_10}
+use Rattle.readnotes.proofs.read_caskody.Goals as goal
+
+pub line_and_number-at-requires : goal.line_and_number-at-requires
+line_and_number-at-requires c =
+    (c.requires.0, lit≤ tt, lit≤ tt, first_10)
+
+pub number_on-at-requires : goal.number_on-at-requires
+unfolding kind_of kinds caskody
+number_on-at-requires c =
+    record { due = c.line_and_number-at.ensures c.if-at-eq0.false; more = lit< tt; is = refl }
+
+pub text_on-at-requires : goal.text_on-at-requires
+unfolding kind_of kinds caskody
+text_on-at-requires c =
+    (record { due = c.number_on-at.ensures c.if-at-eq0-2.false; more = lit< tt; is = refl }, c.requires.1)
+
+pub caskody_rest-requires : goal.caskody_rest-requires
+caskody_rest-requires c =
+    (c.text_on-at.ensures c.if-at-eq0-3.false, c.requires.1)
+
+pub returns : goal.returns
+returns c some = c.caskody_rest.ensures some
+
+pub returns-then-at-eq0 : goal.returns-then-at-eq0
+returns-then-at-eq0 c some = absurd (some refl)
+
+pub returns-then-at-eq0-2 : goal.returns-then-at-eq0-2
+returns-then-at-eq0-2 c some = absurd (some refl)
+
+pub returns-then-at-eq0-3 : goal.returns-then-at-eq0-3
+returns-then-at-eq0-3 c some = absurd (some refl)

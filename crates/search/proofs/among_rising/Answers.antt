@@ -1,0 +1,39 @@
+-- `search::among_rising` meets its contract: the first record whose key isn't below k has it, or none does.
+use mathlib.Core.Path.{sym, ◌∙◌}
+use native.Mathlib.Omega.{arith}
+use borrow.Author.Tests.{eqb-true, eqb-false}
+use Rattle.file.specs.Files.{fields_of}
+use Rattle.lines.proofs.OrderLaws.{from_place, from_rank, from_first, from_miss}
+use Rattle.keys.specs.Ranks.{rank_of, rank_key}
+use Rattle.keys.proofs.KeyFileLaws.{key_here}
+use Rattle.search.proofs.among_rising.Goals as goal
+
+pub returns-then-first-s : goal.returns-then-first-s
+returns-then-first-s c =
+    let a = c.args in
+    let m = c.first_from-first in
+    sym (from_miss (fields_of a.file) (rank_of a.file) a.s.now (rank_key a.k) m.result c.requires.0.legal m.ensures c.requires.1 (λ h. absurd (omega arith)))
+
+pub key_at-requires : goal.key_at-requires
+key_at-requires c =
+    let a = c.args in
+    let m = c.first_from-first in
+    let q = from_place (fields_of a.file) (rank_of a.file) a.s.now (rank_key a.k) m.result c.requires.0.legal m.ensures in
+    key_here a.file a.s.now m.result c.requires.0 q c.if-first-s.false
+
+pub returns-then-equal : goal.returns-then-equal
+returns-then-equal c =
+    let k = c.key_at in
+    let m = c.first_from-first in
+    let a = c.args in
+    let e = eqb-true (rank_key k.result) (rank_key a.k) (sym c.equal.ensures ∙ c.if-equal.true) in
+    sym (from_first (fields_of a.file) (rank_of a.file) a.s.now (rank_key a.k) m.result c.requires.0.legal m.ensures (omega arith) (sym k.ensures.rank ∙ e))
+
+pub returns : goal.returns
+returns c =
+    let k = c.key_at in
+    let m = c.first_from-first in
+    let a = c.args in
+    let ne = eqb-false (rank_key k.result) (rank_key a.k) (sym c.equal.ensures ∙ c.if-equal.false) in
+    let l = from_rank (fields_of a.file) (rank_of a.file) a.s.now (rank_key a.k) m.result c.requires.0.legal m.ensures in
+    sym (from_miss (fields_of a.file) (rank_of a.file) a.s.now (rank_key a.k) m.result c.requires.0.legal m.ensures c.requires.1 (λ h. omega (arith, l h, ne, k.ensures.rank)))

@@ -1,6 +1,6 @@
 -- A walk along a trip's records by their numbers comes to each of them in its order: the record that a step finds is the first of those that
 -- are ahead, and behind it stand those that are ahead of it.
-use mathlib.Core.Path.{◌≡◌, refl, sym, ap, ◌∙◌}
+use mathlib.Core.Path.{◌≡◌, refl, sym, ap, subst, ◌∙◌}
 use mathlib.Core.Bool.{Bool, true, false}
 use mathlib.Core.List.{List, [], ◌∷◌, ◌++◌, append-nil}
 use mathlib.Core.Logic.{inl, inr}
@@ -145,48 +145,80 @@ module _ (file line trip : ℕ) (count : length (key_fields file) ≡ 3) where
   unfolding upward
   trip_climbing rs o = rising_climbing (third file) (select (of_trip file line trip) rs) (trip_apart rs o)
 
+  -- what the least number from x on is, case by case
+  next_first : (x : ℕ) (r : Fields) (rs : List Fields) → both (of_trip file line trip r) (leb x (third file r)) ≡ true
+      → leb (third file r) (next_number file line trip x rs) ≡ true → next_number file line trip x (r ∷ rs) ≡ third file r
+  unfolding next_number
+  next_first x r rs t v = rw (t, v)
+
+  next_end : (x : ℕ) → next_number file line trip x [] ≡ none
+  unfolding next_number
+  next_end x = refl
+
+  next_later : (x : ℕ) (r : Fields) (rs : List Fields) → both (of_trip file line trip r) (leb x (third file r)) ≡ true
+      → leb (third file r) (next_number file line trip x rs) ≡ false → next_number file line trip x (r ∷ rs) ≡ next_number file line trip x rs
+  unfolding next_number
+  next_later x r rs t v = rw (t, v)
+
+  next_pass : (x : ℕ) (r : Fields) (rs : List Fields) → both (of_trip file line trip r) (leb x (third file r)) ≡ false
+      → next_number file line trip x (r ∷ rs) ≡ next_number file line trip x rs
+  unfolding next_number
+  next_pass x r rs t = rw t
+
   -- The least number from x on: no record of the trip from x on has a lesser one, and one has it.
   next_least : (x : ℕ) (rs : List Fields) → All (λ r. x ≤ third file r → next_number file line trip x rs ≤ third file r) (select (of_trip file line trip) rs)
-  unfolding All select next_number
+  unfolding All select
   next_least x [] = tt
   next_least x (r ∷ rs) =
       let n = next_number file line trip x rs in
+      let m = next_number file line trip x (r ∷ rs) in
       either (of_trip file line trip r)
       (λ t.
       either (leb x (third file r))
       (λ u.
+      let b : both (of_trip file line trip r) (leb x (third file r)) ≡ true = rw (t, u) in
       either (leb (third file r) n)
       (λ v.
       let h = leb-true (third file r) n v in
-      rw (t, u, v) (
+      let e : m ≡ third file r = next_first x r rs b v in
+      rw (e, t) (
         λ _. omega arith,
         all_then (λ q. x ≤ third file q → n ≤ third file q) (λ q. x ≤ third file q → third file r ≤ third file q) (λ q g l. omega (arith, g l))
             (select (of_trip file line trip) rs) (next_least x rs),
       ))
       (λ v.
       let h = leb-false (third file r) n v in
-      rw (t, u, v) (λ _. omega arith, next_least x rs)))
-      (λ u. rw (t, u) (λ l. absurd (omega (arith, leb-false x (third file r) u)), next_least x rs)))
-      (λ t. rw t (next_least x rs))
+      let e : m ≡ n = next_later x r rs b v in
+      rw (e, t) (λ _. omega arith, next_least x rs)))
+      (λ u.
+      let e : m ≡ n = next_pass x r rs (rw (t, u)) in
+      rw (e, t) (λ l. absurd (omega (arith, leb-false x (third file r) u)), next_least x rs)))
+      (λ t.
+      let e : m ≡ n = next_pass x r rs (rw t) in
+      rw (e, t) (next_least x rs))
 
   next_has : (x : ℕ) (rs : List Fields) → (next_number file line trip x rs ≡ none → ⊥)
       → (x ≤ next_number file line trip x rs) × (has file (line ∷ trip ∷ next_number file line trip x rs ∷ []) rs ≡ true)
-  unfolding has next_number
-  next_has x [] h = absurd (h refl)
+  unfolding has
+  next_has x [] h = absurd (h (next_end x))
   next_has x (r ∷ rs) h =
       let n = next_number file line trip x rs in
+      let m = next_number file line trip x (r ∷ rs) in
+      let P : ℕ → Type 0 = λ y. (x ≤ y) × (has file (line ∷ trip ∷ y ∷ []) (r ∷ rs) ≡ true) in
       either (both (of_trip file line trip r) (leb x (third file r)))
       (λ t.
       let mine = both_left (of_trip file line trip r) (leb x (third file r)) t in
       let from = leb-true x (third file r) (both_right (of_trip file line trip r) (leb x (third file r)) t) in
       either (leb (third file r) n)
-      (λ v. rw (t, v) (from, here r mine rs))
       (λ v.
-      let f : (n ≡ none → ⊥) = rw (t, v) at h in
-      rw (t, v) (later r n rs (next_has x rs f))))
+      let e : m ≡ third file r = next_first x r rs t v in
+      subst P (sym e) (from, here r mine rs))
+      (λ v.
+      let e : m ≡ n = next_later x r rs t v in
+      subst P (sym e) (later r n rs (next_has x rs (rw e at h)))))
       (λ t.
-      let f : (n ≡ none → ⊥) = rw t at h in
-      rw t (later r n rs (next_has x rs f)))
+      let e : m ≡ n = next_pass x r rs t in
+      subst P (sym e) (later r n rs (next_has x rs (rw e at h))))
     where
       here : (r : Fields) → of_trip file line trip r ≡ true → (rs : List Fields)
           → one_of (same (key_of file r) (line ∷ trip ∷ third file r ∷ [])) (has file (line ∷ trip ∷ third file r ∷ []) rs) ≡ true
@@ -199,49 +231,81 @@ module _ (file line trip : ℕ) (count : length (key_fields file) ≡ 3) where
           → (x ≤ n) × (one_of (same (key_of file r) (line ∷ trip ∷ n ∷ [])) (has file (line ∷ trip ∷ n ∷ []) rs) ≡ true)
       later r n rs p = (p.0, one_right (same (key_of file r) (line ∷ trip ∷ n ∷ [])) (has file (line ∷ trip ∷ n ∷ []) rs) p.1)
 
+  -- what one more than the greatest number below x is, case by case
+  previous_end : (x : ℕ) → previous_number file line trip x [] ≡ 0
+  unfolding previous_number
+  previous_end x = refl
+
+  previous_first : (x : ℕ) (r : Fields) (rs : List Fields) → both (of_trip file line trip r) (ltb (third file r) x) ≡ true
+      → leb (third file r + 1) (previous_number file line trip x rs) ≡ false → previous_number file line trip x (r ∷ rs) ≡ third file r + 1
+  unfolding previous_number
+  previous_first x r rs t v = rw (t, v)
+
+  previous_later : (x : ℕ) (r : Fields) (rs : List Fields) → both (of_trip file line trip r) (ltb (third file r) x) ≡ true
+      → leb (third file r + 1) (previous_number file line trip x rs) ≡ true → previous_number file line trip x (r ∷ rs) ≡ previous_number file line trip x rs
+  unfolding previous_number
+  previous_later x r rs t v = rw (t, v)
+
+  previous_pass : (x : ℕ) (r : Fields) (rs : List Fields) → both (of_trip file line trip r) (ltb (third file r) x) ≡ false
+      → previous_number file line trip x (r ∷ rs) ≡ previous_number file line trip x rs
+  unfolding previous_number
+  previous_pass x r rs t = rw t
+
   -- The greatest number below x, and one more: no record of the trip below x has a greater number, and one has it.
   previous_most : (x : ℕ) (rs : List Fields)
       → All (λ r. third file r < x → third file r + 1 ≤ previous_number file line trip x rs) (select (of_trip file line trip) rs)
-  unfolding All select previous_number
+  unfolding All select
   previous_most x [] = tt
   previous_most x (r ∷ rs) =
       let n = previous_number file line trip x rs in
+      let m = previous_number file line trip x (r ∷ rs) in
       either (of_trip file line trip r)
       (λ t.
       either (ltb (third file r) x)
       (λ u.
+      let b : both (of_trip file line trip r) (ltb (third file r) x) ≡ true = rw (t, u) in
       either (leb (third file r + 1) n)
       (λ v.
       let h = leb-true (third file r + 1) n v in
-      rw (t, u, v) (λ _. h, previous_most x rs))
+      let e : m ≡ n = previous_later x r rs b v in
+      rw (e, t) (λ _. h, previous_most x rs))
       (λ v.
       let h = leb-false (third file r + 1) n v in
-      rw (t, u, v) (
+      let e : m ≡ third file r + 1 = previous_first x r rs b v in
+      rw (e, t) (
         λ _. omega arith,
         all_then (λ q. third file q < x → third file q + 1 ≤ n) (λ q. third file q < x → third file q + 1 ≤ third file r + 1) (λ q g l. omega (arith, g l))
             (select (of_trip file line trip) rs) (previous_most x rs),
       )))
-      (λ u. rw (t, u) (λ l. absurd (omega (arith, ltb-false (third file r) x u)), previous_most x rs)))
-      (λ t. rw t (previous_most x rs))
+      (λ u.
+      let e : m ≡ n = previous_pass x r rs (rw (t, u)) in
+      rw (e, t) (λ l. absurd (omega (arith, ltb-false (third file r) x u)), previous_most x rs)))
+      (λ t.
+      let e : m ≡ n = previous_pass x r rs (rw t) in
+      rw (e, t) (previous_most x rs))
 
   previous_has : (x : ℕ) (rs : List Fields) → (previous_number file line trip x rs ≡ 0 → ⊥)
       → (previous_number file line trip x rs ≤ x) × (has file (line ∷ trip ∷ (previous_number file line trip x rs - 1) ∷ []) rs ≡ true)
-  unfolding has previous_number
-  previous_has x [] h = absurd (h refl)
+  unfolding has
+  previous_has x [] h = absurd (h (previous_end x))
   previous_has x (r ∷ rs) h =
       let n = previous_number file line trip x rs in
+      let m = previous_number file line trip x (r ∷ rs) in
+      let P : ℕ → Type 0 = λ y. (y ≤ x) × (has file (line ∷ trip ∷ (y - 1) ∷ []) (r ∷ rs) ≡ true) in
       either (both (of_trip file line trip r) (ltb (third file r) x))
       (λ t.
       let mine = both_left (of_trip file line trip r) (ltb (third file r) x) t in
       let below = ltb-true (third file r) x (both_right (of_trip file line trip r) (ltb (third file r) x) t) in
       either (leb (third file r + 1) n)
       (λ v.
-      let f : (n ≡ 0 → ⊥) = rw (t, v) at h in
-      rw (t, v) (later r n rs (previous_has x rs f)))
-      (λ v. rw (t, v) (omega arith, here r mine rs)))
+      let e : m ≡ n = previous_later x r rs t v in
+      subst P (sym e) (later r n rs (previous_has x rs (rw e at h))))
+      (λ v.
+      let e : m ≡ third file r + 1 = previous_first x r rs t v in
+      subst P (sym e) (omega arith, here r mine rs)))
       (λ t.
-      let f : (n ≡ 0 → ⊥) = rw t at h in
-      rw t (later r n rs (previous_has x rs f)))
+      let e : m ≡ n = previous_pass x r rs t in
+      subst P (sym e) (later r n rs (previous_has x rs (rw e at h))))
     where
       here : (r : Fields) → of_trip file line trip r ≡ true → (rs : List Fields)
           → one_of (same (key_of file r) (line ∷ trip ∷ (third file r + 1 - 1) ∷ [])) (has file (line ∷ trip ∷ (third file r + 1 - 1) ∷ []) rs) ≡ true

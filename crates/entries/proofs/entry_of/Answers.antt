@@ -1,0 +1,13 @@
+-- `entries::entry_of` asks what it may: a record starts at the place, and a list that isn't empty is an index.
+use native.Mathlib.Omega.{arith}
+use Rattle.keys.proofs.KeyFileLaws.{key_here}
+use Rattle.entries.proofs.entry_of.Goals as goal
+
+pub key_at-requires : goal.key_at-requires
+key_at-requires c = let p = c.requires in key_here _ _ _ p.0 p.2 p.3
+
+pub lower-requires : goal.lower-requires
+lower-requires c =
+    let ne = c.if-part-eq0.false in
+    let p = c.requires in
+    (p.0, p.1 (omega arith), c.key_at.ensures.low)

@@ -162,14 +162,15 @@ program() {
 # The words that rt lib has for the compiler. rt lib itself would first prove each library below again that rt ci has left, since rt ci notes of none what it was made of.
 archive_over() {
     local name=$1 file=$2 toolchain=${3:-$kit/toolchain} below words=()
-    for below in std $(sed -n -e 's/#.*//' -e "s/^$name staticlib *: *//p" crates.txt); do
+    for below in std $(sed -n -e 's/#.*//' -e "s/^$name  *staticlib *: *//p" crates.txt); do
         if [ -d "crates/$below" ]; then words+=(--extern "$below=../$below/out/rlib/$below.rlib"); else words+=(--extern "$below=$kit/rlibs/$below.rlib"); fi
     done
     for below in crates/*/out/rlib; do words+=(-L "dependency=../../$below"); done
     file=$(realpath -m "$file")
     mkdir -p "$(dirname "$file")"
     quietly in_crate "$name" "$kit/bin/rattle" build --crate-name "$name" src/lib.rt --crate-type staticlib "${words[@]}" -L "dependency=$kit/rlibs" \
-        --antt-project "$kit/rattle/logic/antt-project.json" --logic-built "$kit/logic_built" --toolchain "$toolchain" --backend llvm -o "$file"
+        --antt-project "$kit/rattle/logic/antt-project.json" --logic-built "$kit/logic_built" --jobs 2 --links "$name=" --toolchain "$toolchain" \
+        --backend llvm -o "$file"
 }
 
 compile_model() {

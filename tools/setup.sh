@@ -108,7 +108,7 @@ quietly() {
 
 # What a file in a crate's out/ is made of, the kit and the crates, and the file itself, each as one number.
 made_of() {
-    { rt version; cat crates.txt; find crates -type f \( -path '*/src/*' -o -path '*/specs/*' -o -path '*/proofs/*' \) -print0 | sort -z | xargs -0 sha256sum; } | sha256sum
+    { rt version; cat crates.txt; find crates/*/src crates/*/specs crates/*/proofs -type f -print0 | sort -z | xargs -0 sha256sum; } | sha256sum
     sha256sum < "$1"
 }
 

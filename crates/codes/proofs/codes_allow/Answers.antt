@@ -28,17 +28,17 @@ pub returns-then-not-allowed : goal.returns-then-not-allowed
 unfolding codes_allow all_allow
 returns-then-not-allowed c day holidays codes s h a =
     rw
-    (has_no_one s 3 refl c.if-seen-eq1.false, sym (holds_one s h 4 refl) ∙ ne_eqb _ _ c.if-held-eq1.false, sym (holds_one s h 2 refl) ∙ ne_eqb _ _ c.if-held-eq1-2.false, fails a c.if-not-allowed.true)
+    (has_no_one s 3 refl c.if-seen-eq1.false, sym (holds_one s h 4 refl) ∙ ne_eqb _ _ c.if-held-eq1.false, sym (holds_one s h 2 refl) ∙ ne_eqb _ _ c.if-held-eq1-2.false, fails a (ap not c.if-not-allowed.true))
 
 pub returns-then-not-type_allows : goal.returns-then-not-type_allows
 unfolding codes_allow all_allow parity_fits
 returns-then-not-type_allows c day holidays codes s h a =
     rw
-    (has_no_one s 3 refl c.if-seen-eq1.false, sym (holds_one s h 4 refl) ∙ ne_eqb _ _ c.if-held-eq1.false, sym (holds_one s h 2 refl) ∙ ne_eqb _ _ c.if-held-eq1-2.false, holds a c.if-not-allowed.false, fails (c.type_allows.ensures ∙ asks_period s h 1 refl) (ap not c.if-not-type_allows.true))
+    (has_no_one s 3 refl c.if-seen-eq1.false, sym (holds_one s h 4 refl) ∙ ne_eqb _ _ c.if-held-eq1.false, sym (holds_one s h 2 refl) ∙ ne_eqb _ _ c.if-held-eq1-2.false, holds a (ap not c.if-not-allowed.false), fails (c.type_allows.ensures ∙ asks_period s h 1 refl) (ap not c.if-not-type_allows.true))
 
 pub returns : goal.returns
 unfolding codes_allow all_allow parity_fits
 returns c day holidays codes s h a =
     rw
-    (has_no_one s 3 refl c.if-seen-eq1.false, sym (holds_one s h 4 refl) ∙ ne_eqb _ _ c.if-held-eq1.false, sym (holds_one s h 2 refl) ∙ ne_eqb _ _ c.if-held-eq1-2.false, holds a c.if-not-allowed.false, holds (c.type_allows.ensures ∙ asks_period s h 1 refl) (ap not c.if-not-type_allows.false))
+    (has_no_one s 3 refl c.if-seen-eq1.false, sym (holds_one s h 4 refl) ∙ ne_eqb _ _ c.if-held-eq1.false, sym (holds_one s h 2 refl) ∙ ne_eqb _ _ c.if-held-eq1-2.false, holds a (ap not c.if-not-allowed.false), holds (c.type_allows.ensures ∙ asks_period s h 1 refl) (ap not c.if-not-type_allows.false))
     (c.weeks_allow.ensures codes s h)

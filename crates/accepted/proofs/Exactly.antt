@@ -25,7 +25,7 @@ use Rattle.trips.specs.Standing.{Standing}
 use Rattle.kept.proofs.TripDays.{days_exactly}
 use Rattle.kept.proofs.TripStops.{stops_exactly}
 use Rattle.kept.proofs.RuleLaws.{rule_no_pass}
-use Rattle.fault.specs.OneResult.{fault_no_values}
+use Rattle.fault.proofs.OneResult.{fault_no_values}
 use Rattle.filefaults.specs.Faults.{version_fault}
 use Rattle.overfiles.specs.OneFile.{length_fault, bytes_fault}
 use Rattle.overfiles.proofs.FileLaws.{not_long}

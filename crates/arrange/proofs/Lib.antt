@@ -1,2 +1,3 @@
 pub mod KeyedLaws
 pub mod HintLaws
+pub mod OneResult

@@ -12,7 +12,7 @@ use Rattle.laws.specs.Numbered.{Numbered, answered, refused}
 use Rattle.laws.specs.Splice.{splice, store, splice_none, splice_then}
 use Rattle.laws.specs.Tests.{pick}
 use Rattle.fault.specs.Answers.{numbered_fault}
-use Rattle.fault.specs.OneResult.{fault_no_values}
+use Rattle.fault.proofs.OneResult.{fault_no_values}
 use Rattle.fault.specs.declared.Fault.{Fault}
 use Rattle.asking.specs.Rows.{Ask, rows, row_at, questions}
 

@@ -3,7 +3,7 @@ use mathlib.Core.Path.{◌≡◌, refl}
 use Rattle.file.specs.Answers.{numbered}
 use Rattle.file.specs.declared.Refusal.{Refusal}
 use Rattle.fault.specs.Answers.{numbered_fault}
-use Rattle.fault.specs.OneResult.{fault_no_values}
+use Rattle.fault.proofs.OneResult.{fault_no_values}
 use Rattle.fault.specs.declared.Fault.{Fault}
 use Rattle.fileresults.specs.Results.{refused_place}
 use Rattle.fileresults.specs.declared.Place.{Place}

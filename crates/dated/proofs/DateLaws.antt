@@ -9,7 +9,7 @@ use lib.Seq.{take_all}
 use borrow.Author.Tests.{ltb-true, ltb-false, leb-true, leb-false, le-leb, lt-leb, ne_eqb}
 use Rattle.laws.specs.Tests.{either}
 use Rattle.dates.specs.Dates.{day_number}
-use Rattle.dates.specs.Real.{Real, real, years_to, months_to, month_next, month_most, number_low, number_high}
+use Rattle.dates.proofs.Real.{Real, real, years_to, months_to, month_next, month_most, number_low, number_high}
 use Rattle.file.specs.Format.{Text}
 use Rattle.field.specs.Values.{value, is_date_text, day_part, month_part, year_part, day_of_text}
 use Rattle.field.specs.Rules.{closes}

@@ -3,26 +3,26 @@
 use lib.ListN.{length}
 use Rattle.laws.specs.Settled.{settled, settled_self, settled_both}
 use Rattle.calendar.specs.Answers.{numbered_day, numbered_date, numbered_weekday, numbered_week, numbered_whether, day_answer, date_answer, weekday_answer, week_answer, holiday_answer, fits_answer}
-use Rattle.calendar.specs.OneResult.{day_one, date_one, weekday_one, week_one, whether_one}
+use Rattle.calendar.proofs.OneResult.{day_one, date_one, weekday_one, week_one, whether_one}
 use Rattle.file.specs.Answers.{numbered_counted, numbered_stretch, numbered_written, counted_of, stretch_of, text_of}
-use Rattle.file.specs.OneResult.{counted_one, stretch_one, written_one}
+use Rattle.file.proofs.OneResult.{counted_one, stretch_one, written_one}
 use Rattle.file.specs.Writing.{written_of, buffer_of}
 use Rattle.fields.specs.Check.{numbered_checked, checked_of}
-use Rattle.fields.specs.OneResult.{checked_one}
+use Rattle.fields.proofs.OneResult.{checked_one}
 use Rattle.batch.specs.Verdicts.{verdict_of}
 use Rattle.counter.specs.Answers.{runs_answer}
 use Rattle.calls.specs.Answers.{stop_answer}
 use Rattle.selling.specs.Answers.{sale_answer}
 use Rattle.outcome.specs.Answers.{numbered_verdict, numbered_runs, numbered_stop, numbered_sale}
-use Rattle.outcome.specs.OneResult.{verdict_one, runs_one, stop_one, sale_one}
+use Rattle.outcome.proofs.OneResult.{verdict_one, runs_one, stop_one, sale_one}
 use Rattle.asking.specs.Answers.{numbered_sales}
 use Rattle.selling.specs.Sales.{sales_answer, sales_list}
-use Rattle.asking.specs.OneResult.{sales_one}
+use Rattle.asking.proofs.OneResult.{sales_one}
 use Rattle.named.specs.Names.{numbered_named}
 use Rattle.naming.specs.Names.{name_answer}
-use Rattle.named.specs.OneResult.{named_one}
+use Rattle.named.proofs.OneResult.{named_one}
 use Rattle.arrange.specs.Hint.{numbered_hint, hint_answer, hint_list}
-use Rattle.arrange.specs.OneResult.{hint_one}
+use Rattle.arrange.proofs.OneResult.{hint_one}
 use Rattle.fileresults.specs.Results.{write_result}
 use Rattle.saleresults.specs.Results.{sales_result}
 use Rattle.hintresults.specs.Results.{hint_result}

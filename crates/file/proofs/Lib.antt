@@ -15,3 +15,4 @@ pub mod AnswerLaws
 pub mod AskLaws
 pub mod ThirteenFiles
 pub mod RecordLaws
+pub mod OneResult

@@ -9,4 +9,3 @@ pub mod Places
 pub mod Fields
 pub mod Reader
 pub mod Records
-pub mod OneResult

@@ -10,7 +10,7 @@ use Rattle.laws.specs.Tests.{pick, one_of, either}
 use Rattle.laws.specs.Numbered.{Numbered, answered, refused}
 use Rattle.calendar.specs.Answers.{numbered_day, day_answer}
 use Rattle.dates.specs.Dates.{is_date, day_number}
-use Rattle.calendar.specs.Laws.{number_is_day}
+use Rattle.calendar.proofs.Laws.{number_is_day}
 use Rattle.calendar.specs.declared.Day.{Day}
 use Rattle.file.specs.Files.{fields_of}
 use Rattle.file.specs.Format.{Fields}

@@ -1,7 +1,7 @@
 -- A refused question hands on the batch's own refusal, and no value.
 use mathlib.Core.Path.{◌≡◌}
 use Rattle.fault.specs.Answers.{numbered_fault}
-use Rattle.fault.specs.OneResult.{fault_no_values}
+use Rattle.fault.proofs.OneResult.{fault_no_values}
 use Rattle.fault.specs.declared.Fault.{Fault}
 use Rattle.checkresults.specs.Results.{fields_result}
 use Rattle.checkresults.specs.declared.FieldsResult.{FieldsResult}

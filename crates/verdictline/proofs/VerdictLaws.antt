@@ -3,7 +3,7 @@ use mathlib.Core.Path.{◌≡◌, refl, sym, ap, ◌∙◌}
 use borrow.Author.Tests.{ne_eqb}
 use Rattle.laws.specs.Numbered.{Numbered}
 use Rattle.fault.specs.Answers.{numbered_fault}
-use Rattle.fault.specs.OneResult.{fault_no_values}
+use Rattle.fault.proofs.OneResult.{fault_no_values}
 use Rattle.fault.specs.declared.Fault.{Fault}
 use Rattle.outcome.specs.Answers.{numbered_verdict}
 use Rattle.counts.specs.declared.Counts.{Counts}

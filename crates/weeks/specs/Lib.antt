@@ -1,2 +1,1 @@
 pub mod Weeks
-pub mod Turns

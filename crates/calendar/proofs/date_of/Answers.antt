@@ -4,7 +4,7 @@ use Prim.Native.Nat.{ℕ, ◌+◌, ◌-◌, ◌≤◌}
 use native.Mathlib.Omega.{arith}
 use borrow.Author.Tests.{leb-true}
 use Rattle.dates.specs.Dates.{months_days, new_year, month_of, year_of, day_of}
-use Rattle.dates.specs.Real.{month_at, month_high, month_before}
+use Rattle.dates.proofs.Real.{month_at, month_high, month_before}
 use Rattle.calendar.specs.Answers.{numbered_date, date_answer}
 use Rattle.calendar.proofs.date_of.Goals as goal
 

@@ -1,7 +1,7 @@
 -- `day_number` meets its contract: a real date's years, months and days are there to be subtracted, and the sum lies within the calendar.
 use native.Mathlib.Omega.{arith}
 use Rattle.dates.specs.Dates.{day_number}
-use Rattle.dates.specs.Real.{real, number_day}
+use Rattle.dates.proofs.Real.{real, number_day}
 use Rattle.dates.proofs.day_number.Goals as goal
 
 pub overflow_sub-year : goal.overflow_sub-year

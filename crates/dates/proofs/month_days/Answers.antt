@@ -1,7 +1,7 @@
 -- `month_days` meets its contract: February by `leap_year`'s answer, the other months from the table, which has the definition's numbers.
 use mathlib.Core.Path.{sym}
 use Rattle.dates.specs.Dates.{months, month_days}
-use Rattle.dates.specs.Real.{other_month, past_december}
+use Rattle.dates.proofs.Real.{other_month, past_december}
 use Rattle.dates.proofs.month_days.Goals as goal
 
 pub returns-then-leap_year : goal.returns-then-leap_year

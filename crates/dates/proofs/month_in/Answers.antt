@@ -2,7 +2,7 @@
 use Prim.Native.Nat.{◌+◌, ◌-◌}
 use native.Mathlib.Omega.{arith}
 use Rattle.dates.specs.Dates.{months_days}
-use Rattle.dates.specs.Real.{months_step, month_most, month_is, month_top}
+use Rattle.dates.proofs.Real.{months_step, month_most, month_is, month_top}
 use Rattle.dates.proofs.month_in.Goals as goal
 
 pub loop-k-init : goal.loop-k-init

@@ -3,7 +3,7 @@ use Prim.Native.Nat.{◌+◌, ◌-◌}
 use native.Mathlib.Omega.{arith}
 use mathlib.Core.Path.{◌∙◌, ap}
 use Rattle.dates.specs.Dates.{months_days}
-use Rattle.dates.specs.Real.{months_step, month_most}
+use Rattle.dates.proofs.Real.{months_step, month_most}
 use Rattle.dates.proofs.months_days.Goals as goal
 
 pub loop-i-init : goal.loop-i-init

@@ -1,6 +1,6 @@
 -- `since_new_year` meets its contract: the years counted are those before the day's own, whose 1 January isn't after it.
 use native.Mathlib.Omega.{arith}
-use Rattle.dates.specs.Real.{year_found, new_year_found, new_year_passed}
+use Rattle.dates.proofs.Real.{year_found, new_year_found, new_year_passed}
 use Rattle.dates.proofs.since_new_year.Goals as goal
 
 pub overflow_sub-year : goal.overflow_sub-year

@@ -2,7 +2,7 @@
 use Prim.Native.Nat.{◌+◌, ◌-◌}
 use native.Mathlib.Omega.{arith}
 use Rattle.dates.specs.Dates.{years_days}
-use Rattle.dates.specs.Real.{years_step, year_most, year_is, year_top}
+use Rattle.dates.proofs.Real.{years_step, year_most, year_is, year_top}
 use Rattle.dates.proofs.year_of.Goals as goal
 
 pub loop-k-init : goal.loop-k-init

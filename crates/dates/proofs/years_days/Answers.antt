@@ -3,7 +3,7 @@ use Prim.Native.Nat.{◌+◌, ◌-◌}
 use native.Mathlib.Omega.{arith}
 use mathlib.Core.Path.{◌∙◌, ap}
 use Rattle.dates.specs.Dates.{years_days}
-use Rattle.dates.specs.Real.{years_step, year_most}
+use Rattle.dates.proofs.Real.{years_step, year_most}
 use Rattle.dates.proofs.years_days.Goals as goal
 
 pub loop-i-init : goal.loop-i-init

@@ -6,7 +6,7 @@ use denote.Enum.Declared.{tag_of}
 use borrow.Enum.Refused.{opened}
 use types.Run.{OneOf, miss}
 use lib.Dec.{eqb}
-use Rattle.file.specs.OneResult.{no_answer}
+use Rattle.file.proofs.OneResult.{no_answer}
 use Rattle.fault.specs.Answers.{numbered_fault}
 use Rattle.fault.specs.declared.Fault.{Fault}
 use Rattle.fault.specs.contracts.Fault.{the_type}

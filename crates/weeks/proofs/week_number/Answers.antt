@@ -1,8 +1,8 @@
 -- `week_number` meets its contract: its Thursday is the week's, and sevens from that year's 1 January count the year's Thursdays.
 use native.Mathlib.Omega.{arith}
 use mathlib.Core.Path.{sym}
-use Rattle.dates.specs.Real.{year_found, new_year_passed}
-use Rattle.weeks.specs.Turns.{thursday_is, week_found}
+use Rattle.dates.proofs.Real.{year_found, new_year_passed}
+use Rattle.weeks.proofs.Turns.{thursday_is, week_found}
 use Rattle.weeks.proofs.week_number.Goals as goal
 
 pub overflow_sub-year : goal.overflow_sub-year

@@ -3,8 +3,8 @@ use native.Mathlib.Omega.{arith}
 use Prim.Native.Nat.{◌-◌}
 use Rattle.dates.specs.Dates.{year_days, years_days}
 use Rattle.weeks.specs.Weeks.{weeks_in}
-use Rattle.dates.specs.Real.{year_most, years_to, all_years}
-use Rattle.weeks.specs.Turns.{thursdays_are}
+use Rattle.dates.proofs.Real.{year_most, years_to, all_years}
+use Rattle.weeks.proofs.Turns.{thursdays_are}
 use Rattle.weeks.proofs.weeks_in.Goals as goal
 
 pub overflow_add-begun : goal.overflow_add-begun

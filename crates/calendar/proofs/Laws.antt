@@ -9,8 +9,8 @@ use Rattle.laws.specs.Tests.{pick, one_of, either, clash}
 use Rattle.dates.specs.Dates.{within, year_days, is_date, years_days, day_number, year_of, new_year, month_of, day_of, date_of, number_of, tomorrow}
 use Rattle.weeks.specs.Weeks.{weekday, thursday_of, week_of, weeks_in}
 use Rattle.signs.specs.Signs.{is_day_sign, is_workday, is_restday, sign_fits}
-use Rattle.dates.specs.Real.{within_true, real, real_is, number_day, year_least, year_most, month_next, month_least, year_low, year_high, new_year_before, next_year_after, month_low, month_high, month_before, next_month_after}
-use Rattle.weeks.specs.Turns.{in_month, month_end, year_end, by_tomorrow, not_the_last, new_year_is, year_of_number, month_of_number, day_of_number, thursdays_are, thursday_is, thursday_in, week_is, one_year, next_new_year}
+use Rattle.dates.proofs.Real.{within_true, real, real_is, number_day, year_least, year_most, month_next, month_least, year_low, year_high, new_year_before, next_year_after, month_low, month_high, month_before, next_month_after}
+use Rattle.weeks.proofs.Turns.{in_month, month_end, year_end, by_tomorrow, not_the_last, new_year_is, year_of_number, month_of_number, day_of_number, thursdays_are, thursday_is, thursday_in, week_is, one_year, next_new_year}
 
 -- THE DAY AFTER a real date has the next number, over the ends of months and years
 pub next_number : (d m y : ℕ) → is_date d m y ≡ true → number_of (tomorrow d m y) ≡ day_number d m y + 1

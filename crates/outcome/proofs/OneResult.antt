@@ -5,7 +5,7 @@ use Rattle.laws.specs.Numbered.{Numbered}
 use Rattle.laws.specs.Settled.{OneToOne, told_back}
 use Rattle.laws.specs.Tests.{pick}
 use Rattle.fault.specs.Answers.{numbered_fault}
-use Rattle.fault.specs.OneResult.{case_of, case_told, fault_no_values, fault_another}
+use Rattle.fault.proofs.OneResult.{case_of, case_told, fault_no_values, fault_another}
 use Rattle.fault.specs.declared.Fault.{Fault}
 use Rattle.boarding.specs.Answers.{numbered_sold}
 use Rattle.boarding.specs.declared.Sold.{Sold}

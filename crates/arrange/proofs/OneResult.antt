@@ -4,7 +4,7 @@ use Rattle.std.proofs.Common.{ap}
 use Rattle.laws.specs.Numbered.{Numbered}
 use Rattle.laws.specs.Settled.{OneToOne, told_back}
 use Rattle.laws.specs.Tests.{pick}
-use Rattle.fault.specs.OneResult.{case_of, case_told, fault_no_values}
+use Rattle.fault.proofs.OneResult.{case_of, case_told, fault_no_values}
 use Rattle.arrange.specs.declared.Arranged.{Arranged}
 use Rattle.arrange.specs.Hint.{numbered_hint}
 

@@ -6,8 +6,8 @@ use Rattle.std.proofs.lemmas.Bool.{eqb-false}
 use Rattle.laws.specs.Tests.{pick, either}
 use Rattle.dates.specs.Dates.{tomorrow, leap, year_days, month_days, is_date, years_days, months_days, day_number, year_of, new_year, month_of, day_of}
 use Rattle.weeks.specs.Weeks.{weekday, monday_of, thursday_of, thursdays, week_of}
-use Rattle.dates.specs.Counting.{last_is}
-use Rattle.dates.specs.Real.{Real, real, twelve, year_least, next_year_after, years_to, year_index, years_rise, months_rise, year_next, month_next, number_low, number_high, year_low, year_high, new_year_before, new_year_found}
+use Rattle.dates.proofs.Counting.{last_is}
+use Rattle.dates.proofs.Real.{Real, real, twelve, year_least, next_year_after, years_to, year_index, years_rise, months_rise, year_next, month_next, number_low, number_high, year_low, year_high, new_year_before, new_year_found}
 
 pub in_month : (d m y : ℕ) → 1 ≤ d → day_number (d + 1) m y ≡ day_number d m y + 1
 unfolding day_number

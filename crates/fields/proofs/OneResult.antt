@@ -5,7 +5,7 @@ use Rattle.laws.specs.Numbered.{Numbered}
 use Rattle.laws.specs.Settled.{OneToOne, told_back}
 use Rattle.laws.specs.Tests.{pick}
 use Rattle.file.specs.Answers.{numbered}
-use Rattle.file.specs.OneResult.{refusal_of, refusal_told, no_answer}
+use Rattle.file.proofs.OneResult.{refusal_of, refusal_told, no_answer}
 use Rattle.file.specs.declared.Refusal.{Refusal}
 use Rattle.fields.specs.declared.Checked.{Checked}
 use Rattle.fields.specs.Check.{numbered_checked}

@@ -5,7 +5,7 @@ use Rattle.laws.specs.Numbered.{Numbered}
 use Rattle.laws.specs.Settled.{OneToOne, told_back}
 use Rattle.laws.specs.Tests.{pick, both, clash}
 use Rattle.file.specs.Answers.{numbered}
-use Rattle.file.specs.OneResult.{refusal_of, refusal_told, no_answer}
+use Rattle.file.proofs.OneResult.{refusal_of, refusal_told, no_answer}
 use Rattle.file.specs.declared.Refusal.{Refusal}
 use Rattle.fault.specs.declared.Fault.{Fault}
 use Rattle.fault.specs.Answers.{numbered_fault}

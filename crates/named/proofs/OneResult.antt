@@ -8,7 +8,7 @@ use Rattle.laws.specs.Tests.{pick}
 use Rattle.file.specs.Answers.{numbered}
 use Rattle.file.specs.declared.Refusal.{Refusal}
 use Rattle.fault.specs.Answers.{numbered_fault}
-use Rattle.fault.specs.OneResult.{case_of, case_told, fault_no_values}
+use Rattle.fault.proofs.OneResult.{case_of, case_told, fault_no_values}
 use Rattle.fault.specs.declared.Fault.{Fault}
 use Rattle.named.specs.declared.Named.{Named}
 use Rattle.named.specs.Names.{numbered_named}

@@ -6,7 +6,7 @@ use Rattle.std.proofs.Math.ListN.{get_or-eq_default}
 use Rattle.laws.specs.Below.{below}
 use Rattle.laws.specs.Tests.{pick, both, both_left, both_right, both_true}
 use Rattle.dates.specs.Dates.{within, leap, year_days, months, month_days, is_date, years_days, months_days, day_number, last_begun, year_of, new_year, month_of}
-use Rattle.dates.specs.Counting.{last_le, last_begun_lem, last_next, last_is, last_top, rises}
+use Rattle.dates.proofs.Counting.{last_le, last_begun_lem, last_next, last_is, last_top, rises}
 
 within_low : (a x b : ℕ) → within a x b ≡ true → a ≤ x
 within_low a x b e = leb-true _ _ (both_left (leb a x) (leb x b) e)

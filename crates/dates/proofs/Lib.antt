@@ -1,0 +1,2 @@
+pub mod Real
+pub mod Counting

@@ -64,7 +64,7 @@ loop-at-preserved c =
     let file : ℕ =
     c.args.file in
     let x = c.first_amiss-f in
-    (left_next _ file _ _ _ _ _ _ _ c.loop-at.invariant.0 c.fields_of-n.ensures c.cut-next.ensures _ c.is_used.ensures c.if-is_used.false _ x.ensures.0 c.if-f-ne0.false, x.ensures.1, x.auto.1.1.1.1.1.1.1.1.1.1.1.1.1.1.1.1.1.1.1.0 ∙ c.loop-at.invariant.2)
+    (left_next _ file _ _ _ _ _ _ _ c.loop-at.invariant.0 c.fields_of-n.ensures c.cut-next.ensures _ c.is_used.ensures c.if-is_used.false _ x.ensures.0 c.if-f-ne0.false, x.ensures.1, x.auto.last ∙ c.loop-at.invariant.2)
 
 pub returns : goal.returns
 unfolding numbered_linked

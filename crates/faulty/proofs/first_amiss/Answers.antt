@@ -21,7 +21,7 @@ pub shape_of-last-then-amiss_at-ne0 : goal.shape_of-last-then-amiss_at-ne0
 shape_of-last-then-amiss_at-ne0 c =
     let x = c.amiss_at in
     let l = c.loop-f in
-    x.auto.1.1.1.1.1.1.1.1.1.1.1.1.1.1.1.1.1.1.1.1.0 ∙ l.invariant.4
+    x.auto.last ∙ l.invariant.4
 
 pub returns-then-amiss_at-ne0 : goal.returns-then-amiss_at-ne0
 returns-then-amiss_at-ne0 c =
@@ -37,7 +37,7 @@ loop-f-preserved c =
     let l = c.loop-f in
     let a = c.args in
     let more : l.f ≤ c.links_in-n.result = omega (arith, c.loop-f-test.true) in
-    (omega arith, l.invariant.1, omega (arith, more), x.ensures.1, x.auto.1.1.1.1.1.1.1.1.1.1.1.1.1.1.1.1.1.1.1.1.0 ∙ l.invariant.4, sym (amiss_turn _ a.file _ l.f _ more (sym x.ensures.0 ∙ c.if-amiss_at-ne0.false)) ∙ l.invariant.5)
+    (omega arith, l.invariant.1, omega (arith, more), x.ensures.1, x.auto.last ∙ l.invariant.4, sym (amiss_turn _ a.file _ l.f _ more (sym x.ensures.0 ∙ c.if-amiss_at-ne0.false)) ∙ l.invariant.5)
 
 pub returns : goal.returns
 returns c =

@@ -1,0 +1,14 @@
+-- `passage::stands_well` meets its contract: the rules are asked first, and then the links.
+use mathlib.Core.Path.{sym, ◌∙◌}
+use Rattle.laws.specs.Tests.{never}
+use Rattle.passage.proofs.stands_well.Goals as goal
+
+pub returns-then-not-meets_rules : goal.returns-then-not-meets_rules
+returns-then-not-meets_rules c =
+    let p = c.requires in
+    ((λ t. never t), p.0.known.looks.lasts, p.1)
+
+pub returns : goal.returns
+returns c =
+    let x = c.record_met.ensures in
+    ((λ t. (sym c.meets_rules.ensures ∙ c.if-not-meets_rules.false, x.0 t)), x.1, x.2)

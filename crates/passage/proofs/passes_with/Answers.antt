@@ -18,75 +18,59 @@ loop-at-init c =
 
 pub read_on-next-requires : goal.read_on-next-requires
 read_on-next-requires c =
-    let start : goal.Start =
-    begin c.before.before.before.before in
-    let file : ℕ =
-    start.args.file in
-    (c.loop-at.invariant.0, fielded file _ c.fields_of-n.ensures (omega (arith, start.requires.0)) start.requires.1, start.requires.2.table)
+    let file : ℕ = c.args.file in
+    (c.loop-at.invariant.0, fielded file _ c.fields_of-n.ensures (omega (arith, c.requires.0)) c.requires.1, c.requires.2.table)
 
 pub key_of-k-requires : goal.key_of-k-requires
 key_of-k-requires c =
-    let start : goal.Start =
-    begin c.before.before.before.before.before.before.before in
-    let file : ℕ =
-    start.args.file in
+    let file : ℕ = c.args.file in
     let fields : Fielded file (fields_of file) =
-    fielded file (fields_of file) refl (omega (arith, start.pre.0)) start.pre.1 in
+    fielded file (fields_of file) refl (omega (arith, c.requires.0)) c.requires.1 in
     let r = read_as refl (sym c.fields_of-n.ensures) (c.read_on-next.ensures c.if-next-eq0.false) in
-    (start.pre.0, kinded file (fields_of file) _ _ _ _ fields r)
+    (c.requires.0, kinded file (fields_of file) _ _ _ _ fields r)
 
 pub follows-requires : goal.follows-requires
 follows-requires c = (c.loop-at.invariant.1, c.key_of-k.ensures.low)
 
 pub stands_well-requires : goal.stands_well-requires
 stands_well-requires c =
-    let start : goal.Start =
-    begin c.before.before.before.before.before.before.before.before.before.before.before.before.before in
-    let file : ℕ =
-    start.args.file in
+    let file : ℕ = c.args.file in
     let fields : Fielded file (fields_of file) =
-    fielded file (fields_of file) refl (omega (arith, start.pre.0)) start.pre.1 in
-    let p = start.pre in
+    fielded file (fields_of file) refl (omega (arith, c.requires.0)) c.requires.1 in
+    let p = c.requires in
     let i = c.loop-at.invariant in
     let r = read_as refl (sym c.fields_of-n.ensures) (c.read_on-next.ensures c.if-next-eq0.false) in
     (record { known = later p.2 _ i.3; kinded = kinded file (fields_of file) _ _ _ _ fields r }, i.5, p.0, p.1)
 
 pub shape_of-last-then-not-stands_well : goal.shape_of-last-then-not-stands_well
-shape_of-last-then-not-stands_well c = c.stands_well.kept.1.1.1.1.1.1.1.1.1.1.1.1.1.1.1.1.1.1.1.0 ∙ (looped c.before.before.before.before.before.before.before.before.before.before.before.before.before).loop.inv.4
+shape_of-last-then-not-stands_well c = c.stands_well.auto.last ∙ c.loop-at.invariant.4
 
 pub shape_of-table-then-not-stands_well : goal.shape_of-table-then-not-stands_well
-shape_of-table-then-not-stands_well c = c.stands_well.kept.1.1.1.1.1.1.1.1.1.1.1.1.1.1.1.1.1.1.1.1.0 ∙ (looped c.before.before.before.before.before.before.before.before.before.before.before.before.before).loop.inv.6
+shape_of-table-then-not-stands_well c = c.stands_well.auto.table ∙ c.loop-at.invariant.6
 
 pub loop-at-smaller : goal.loop-at-smaller
 loop-at-smaller c =
-    let e = reading c.before.before.before.before.before.before.before.before.before in
-    let r = e.before.read_on.ensures e.if1.left in
+    let r = c.read_on-next.ensures c.if-next-eq0.false in
     omega (arith, r.far, r.near)
 
 pub loop-at-preserved : goal.loop-at-preserved
 loop-at-preserved c =
-    let start : goal.Start =
-    begin c.before.before.before.before.before.before.before.before.before.before.before.before.before.before.before.before.before.before.before in
-    let file : ℕ =
-    start.args.file in
+    let file : ℕ = c.args.file in
     let fields : Fielded file (fields_of file) =
-    fielded file (fields_of file) refl (omega (arith, start.pre.0)) start.pre.1 in
+    fielded file (fields_of file) refl (omega (arith, c.requires.0)) c.requires.1 in
     let i = c.loop-at.invariant in
     let a = c.stands_well in
     let k = c.key_of-k.ensures in
     let r = read_as refl (sym c.fields_of-n.ensures) (c.read_on-next.ensures c.if-next-eq0.false) in
     let m = a.ensures.0 (c.if-not-stands_well.false) in
     let h = c.follows.ensures (c.if-not-follows.false) in
-    (r.near, k.low, (λ x. i.2 (passes_step _ file _ _ _ _ _ _ fields r m.0 m.1 k h x)), a.ensures.1, a.kept.1.1.1.1.1.1.1.1.1.1.1.1.1.1.1.1.1.1.1.0 ∙ i.4, a.ensures.2, a.kept.1.1.1.1.1.1.1.1.1.1.1.1.1.1.1.1.1.1.1.1.0 ∙ i.6)
+    (r.near, k.low, (λ x. i.2 (passes_step _ file _ _ _ _ _ _ fields r m.0 m.1 k h x)), a.ensures.1, a.auto.last ∙ i.4, a.ensures.2, a.auto.table ∙ i.6)
 
 pub returns : goal.returns
 returns c t =
-    let start : goal.Start =
-    begin c.before.before.before in
-    let file : ℕ =
-    start.args.file in
+    let file : ℕ = c.args.file in
     let fields : Fielded file (fields_of file) =
-    fielded file (fields_of file) refl (omega (arith, start.pre.0)) start.pre.1 in
+    fielded file (fields_of file) refl (omega (arith, c.requires.0)) c.requires.1 in
     passes_all _ file _ _ (c.loop-at.invariant.2 (passes_end _ file _ _ _ fields c.loop-at-test.false))
 
 pub shape_of-last-then-next-eq0 : goal.shape_of-last-then-next-eq0

@@ -117,7 +117,7 @@ impl Folder<'_> {
         self.ask(&case.batch, case.want, &ways);
     }
 
-    /// The folder has something that can't be read: a message and no line. Its status is 0: a program of Rattle has no other.
+    /// The folder has something that can't be read: a message and no line. Its status is 0: the line alone is the verdict.
     fn ask_error(&mut self, batch: &Bytes, way: String) {
         let run = self.run();
         self.report.comparisons += 1;

@@ -25,7 +25,7 @@ returns-then-all_met c = let y = c.all_met.ensures in (sym (y.0 c.if-all_met.tru
 
 pub file_order_fault-requires : goal.file_order_fault-requires
 file_order_fault-requires c =
-    let p = (begin c.before.before.before.before.before.before.before.before.before.before.before.before.before.before.before.before.before).requires in
+    let p = c.requires in
     (p.0, p.1, later p.2 _ c.all_met.ensures.1)
 
 pub shape_of-last : goal.shape_of-last

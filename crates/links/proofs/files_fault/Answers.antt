@@ -13,20 +13,20 @@ file_fault-found-requires c =
     (i.0.low, omega (arith, c.loop-file-test.true), onward_known _ _ _ _ _ _ _ i.0 p.0 p.1 p.2 i.1, i.3)
 
 pub shape_of-last-then-not-is_sound : goal.shape_of-last-then-not-is_sound
-shape_of-last-then-not-is_sound c = c.file_fault-found.kept.1.1.1.1.1.1.1.1.1.1.1.1.1.1.1.1.1.0 ∙ c.loop-file.invariant.2
+shape_of-last-then-not-is_sound c = c.file_fault-found.auto.last ∙ c.loop-file.invariant.2
 
 pub shape_of-table-then-not-is_sound : goal.shape_of-table-then-not-is_sound
-shape_of-table-then-not-is_sound c = c.file_fault-found.kept.1.1.1.1.1.1.1.1.1.1.1.1.1.1.1.1.1.1.0 ∙ c.loop-file.invariant.4
+shape_of-table-then-not-is_sound c = c.file_fault-found.auto.table ∙ c.loop-file.invariant.4
 
 pub returns-then-not-is_sound : goal.returns-then-not-is_sound
 returns-then-not-is_sound c =
-    onward_stop _ _ c.loop-file.invariant.0 c.loop-file-test.taken _ c.file_fault-found.ensures.0 _ c.is_sound.ensures (c.if-not-is_sound.true)
+    onward_stop _ _ c.loop-file.invariant.0 c.loop-file-test.true _ c.file_fault-found.ensures.0 _ c.is_sound.ensures (c.if-not-is_sound.true)
 
 pub loop-file-preserved : goal.loop-file-preserved
 loop-file-preserved c =
     let i = c.loop-file.invariant in
     let x = c.file_fault-found in
-    (onward_next _ _ i.0 c.loop-file-test.taken _ x.ensures.0 _ c.is_sound.ensures (c.if-not-is_sound.false), x.ensures.1, x.kept.1.1.1.1.1.1.1.1.1.1.1.1.1.1.1.1.1.0 ∙ i.2, x.ensures.2, x.kept.1.1.1.1.1.1.1.1.1.1.1.1.1.1.1.1.1.1.0 ∙ i.4)
+    (onward_next _ _ i.0 c.loop-file-test.true _ x.ensures.0 _ c.is_sound.ensures (c.if-not-is_sound.false), x.ensures.1, x.auto.last ∙ i.2, x.ensures.2, x.auto.table ∙ i.4)
 
 pub returns : goal.returns
 unfolding numbered_linked
@@ -36,7 +36,7 @@ pub loop-file-init : goal.loop-file-init
 loop-file-init c = let p = c.requires in (onward_start _, p.1.lasts, refl, p.3, refl)
 
 pub overflow_add-file : goal.overflow_add-file
-overflow_add-file c = omega (arith, (turn c.before.before.before.before.before.before).before.loop.inv.0.high)
+overflow_add-file c = omega (arith, c.loop-file.invariant.0.high)
 
 pub shape_of-last : goal.shape_of-last
 shape_of-last c = c.loop-file.invariant.2

@@ -22,10 +22,8 @@ code_sign-requires c =
 
 pub loop-i-preserved : goal.loop-i-preserved
 loop-i-preserved c =
-    let sign : ℕ → ℕ =
-    λ c. sign_in (records_in (fields_of 3) c.args.f3.now) c in
-    let cut : Fields =
-    texts c.args.file c.args.s.now c.args.places.now in
+    let sign : ℕ → ℕ = λ k. sign_in (records_in (fields_of 3) c.args.f3.now) k in
+    let cut : Fields = texts c.args.file c.args.s.now c.args.places.now in
     let a = c.args in (
       omega (arith, c.loop-i.invariant.0),
       coming_next sign c.loop-i.i a.to cut _ _ c.loop-i.invariant.1 c.loop-i-test.true _ c.code_sign.ensures _ c.marked-m.ensures,
@@ -33,9 +31,7 @@ loop-i-preserved c =
 
 pub returns : goal.returns
 returns c =
-    let sign : ℕ → ℕ =
-    λ c. sign_in (records_in (fields_of 3) c.args.f3.now) c in
-    let cut : Fields =
-    texts c.args.file c.args.s.now c.args.places.now in
+    let sign : ℕ → ℕ = λ k. sign_in (records_in (fields_of 3) c.args.f3.now) k in
+    let cut : Fields = texts c.args.file c.args.s.now c.args.places.now in
     let a = c.args in
     coming_last sign c.loop-i.i a.to cut _ _ c.loop-i.invariant.1 c.loop-i-test.false

@@ -17,29 +17,23 @@ code_sign-requires c =
 
 pub returns-then-code_sign-x : goal.returns-then-code_sign-x
 returns-then-code_sign-x c =
-    let sign : ℕ → ℕ =
-    λ c. sign_in (records_in (fields_of 3) c.args.f3.now) c in
-    let cut : Fields =
-    texts c.args.file c.args.s.now c.args.places.now in
+    let sign : ℕ → ℕ = λ k. sign_in (records_in (fields_of 3) c.args.f3.now) k in
+    let cut : Fields = texts c.args.file c.args.s.now c.args.places.now in
     let a = c.args in
     sym (codes_here sign a.x c.loop-i.i a.to cut c.requires.0 c.loop-i-test.true _ c.code_sign.ensures c.if-code_sign-x.true)
     ∙ c.loop-i.invariant.1
 
 pub loop-i-preserved : goal.loop-i-preserved
 loop-i-preserved c =
-    let sign : ℕ → ℕ =
-    λ c. sign_in (records_in (fields_of 3) c.args.f3.now) c in
-    let cut : Fields =
-    texts c.args.file c.args.s.now c.args.places.now in
+    let sign : ℕ → ℕ = λ k. sign_in (records_in (fields_of 3) c.args.f3.now) k in
+    let cut : Fields = texts c.args.file c.args.s.now c.args.places.now in
     let a = c.args in
     (omega (arith, c.loop-i.invariant.0), sym (codes_past sign a.x c.loop-i.i a.to cut c.requires.0 c.loop-i-test.true _ c.code_sign.ensures c.if-code_sign-x.false) ∙ c.loop-i.invariant.1)
 
 pub returns : goal.returns
 returns c =
-    let sign : ℕ → ℕ =
-    λ c. sign_in (records_in (fields_of 3) c.args.f3.now) c in
-    let cut : Fields =
-    texts c.args.file c.args.s.now c.args.places.now in
+    let sign : ℕ → ℕ = λ k. sign_in (records_in (fields_of 3) c.args.f3.now) k in
+    let cut : Fields = texts c.args.file c.args.s.now c.args.places.now in
     let a = c.args in
     sym (codes_none sign a.x c.loop-i.i a.to cut c.requires.0 c.loop-i-test.false) ∙ c.loop-i.invariant.1
 

@@ -1,0 +1,7 @@
+-- `slovdrim_sales` hands on what the counter answers, and the list as the counter leaves it.
+use mathlib.Core.Path.{ap, ◌∙◌}
+use Rattle.saleresults.specs.Results.{sales_result}
+use Rattle.slovdrim.proofs.desk.slovdrim_sales.Goals as goal
+
+pub returns : goal.returns
+returns c = (c.sales_handed.ensures ∙ ap sales_result c.many_sales.ensures.0, c.many_sales.ensures.1)

@@ -1,0 +1,7 @@
+-- `slovdrim_order` hands on the answer, and the list as it was left.
+use mathlib.Core.Path.{ap, ◌∙◌}
+use Rattle.hintresults.specs.Results.{hint_result}
+use Rattle.slovdrim.proofs.hints.slovdrim_order.Goals as goal
+
+pub returns : goal.returns
+returns c = (c.hint_handed.ensures ∙ ap hint_result c.arrange.ensures.0, c.arrange.ensures.1)

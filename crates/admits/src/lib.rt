@@ -13,50 +13,39 @@ use field::{Kind, is_date, is_digits, is_one_of, is_time};
 fn is_sized(t: &[u8], a: usize, b: usize) -> bool
     ensures { result ≡ sized a b t.now }
 {
-    if t.len() < a {
-        return false;
-    }
-    t.len() <= b
+    a <= t.len() && t.len() <= b
 }
 
+#[tactic(auto, unfolding(field::specs::Kinds::admits))]
 fn maybe_digits(t: &[u8], a: usize, b: usize) -> bool
     ensures { result ≡ admits (Kind.MaybeDigits a b) t.now }
 {
-    if t.len() == 0 {
-        return true;
-    }
-    is_digits(t, a, b)
+    t.is_empty() || is_digits(t, a, b)
 }
 
+#[tactic(auto, unfolding(field::specs::Kinds::admits))]
 fn maybe_date(t: &[u8]) -> bool
     ensures { result ≡ admits Kind.MaybeDate t.now }
 {
-    if t.len() == 0 {
-        return true;
-    }
-    is_date(t)
+    t.is_empty() || is_date(t)
 }
 
 fn maybe_one_of(t: &[u8], set: &[u8]) -> bool
     ensures { result ≡ one_of (is_empty t.now) (among set.now t.now) }
 {
-    if t.len() == 0 {
-        return true;
-    }
-    is_one_of(t, set)
+    t.is_empty() || is_one_of(t, set)
 }
 
 // HHMM, or `|`, `<`, or empty.
+#[tactic(auto, unfolding(field::specs::Kinds::admits))]
 fn is_time_field(t: &[u8]) -> bool
     ensures { result ≡ admits Kind.Time t.now }
 {
-    if maybe_one_of(t, b"|<") {
-        return true;
-    }
-    is_time(t)
+    maybe_one_of(t, b"|<") || is_time(t)
 }
 
 // inner: a text of this kind
+#[tactic(auto, unfolding(field::specs::Kinds::admits, field::specs::Kinds::signs, field::specs::Kinds::line_types))]
 pub fn admits_text(kind: Kind, t: &[u8]) -> bool
     ensures { result ≡ admits kind t.now }
 {

@@ -4,47 +4,24 @@
 
 // Whether a record may start at a place: a quote stands there. The byte 48 on is looked at too, since a record often ends in the next stretch of memory.
 fn seems_record(s: &[u8], at: usize) -> bool {
-    if at >= s.len() {
-        return false;
-    }
-    if s[at] != 34 {
-        return false;
-    }
-    if s.len() - at <= 48 {
-        return true;
-    }
-    s[at + 48] != 0
+    at < s.len() && s[at] == b'"' && (s.len() - at <= 48 || s[at + 48] != 0)
 }
 
 // Whether records may start at the next 32 entries of a list.
 fn seem_records(s: &[u8], order: &[u32], from: usize) -> bool {
-    let mut n: usize = 0;
-    let mut i = from;
-    while n < 32 {
-        if i >= order.len() {
-            return true;
-        }
-        if !seems_record(s, order[i] as usize) {
-            return false;
-        }
-        i += 1;
-        n += 1;
-    }
-    true
+    from > order.len()
+        || order[from..]
+            .iter()
+            .take(32)
+            .all(|at| seems_record(s, *at as usize))
 }
 
 // inner: for a pass over a list that has come to entry i: at every 32nd, looks at the next 32
 pub fn list_goes_on(s: &[u8], order: &[u32], i: usize) -> bool {
-    if i % 32 != 0 {
-        return true;
-    }
-    seem_records(s, order, i)
+    i % 32 != 0 || seem_records(s, order, i)
 }
 
 // inner: for a walk that goes from entry to entry, not always upward, and has come to this one: looks at the 32 behind the next ones
 pub fn walk_goes_on(s: &[u8], order: &[u32], entry: usize) -> bool {
-    if entry >= order.len() {
-        return true;
-    }
-    seem_records(s, order, entry / 32 * 32 + 64)
+    entry >= order.len() || seem_records(s, order, entry / 32 * 32 + 64)
 }

@@ -4,31 +4,16 @@
 
 ghost use Rattle.std.specs.Prelude.{◌≤◌};
 
-use calendar::{Day, DayOfWeek, Week};
 use std::io;
 
 // The number of a date, 0 where it isn't real.
 fn number(day: u64, month: u64, year: u64) -> u64 {
-    match calendar::day_of(day, month, year) {
-        Day::At(n) => n,
-        Day::NotReal => 0,
-    }
-}
-
-// The day of the week of a day, 0 where there is none.
-fn weekday(n: u64) -> u64 {
-    match calendar::weekday_of(n) {
-        DayOfWeek::Is(w) => w,
-        DayOfWeek::NoWeekday => 0,
-    }
+    calendar::day_of(day, month, year).unwrap_or(0)
 }
 
 // The number of a day's week, 0 where there is none.
 fn week(n: u64) -> u64 {
-    match calendar::week_of(n) {
-        Week::Counted(w, _) => w,
-        Week::NoWeek => 0,
-    }
+    calendar::week_of(n).map_or(0, |w| w.number)
 }
 
 // Writes the line of a year.
@@ -37,7 +22,7 @@ fn line(rt: &impl Print, year: u64) -> io::Result<()>
 {
     let first = number(1, 1, year);
     let last = number(31, 12, year);
-    let weekday = weekday(first);
+    let weekday = calendar::weekday_of(first).unwrap_or(0);
     let days = dates::year_days(year);
     let weeks = weeks::weeks_in(year);
     let first_week = week(first);

@@ -1,7 +1,9 @@
 -- What is wrong with a field, link by link: whether a search found the record that it links to, and whether its sign is permitted.
+use Rattle.std.specs.Prelude.{None, Option, Some}
 use mathlib.Core.Path.{◌≡◌, sym, ◌∙◌}
 use mathlib.Core.Bool.{Bool, true, false}
 use mathlib.Core.List.{List, [], ◌∷◌}
+use mathlib.Core.Logic.{◌⊎◌, inl, inr}
 use Prim.Native.Nat.{ℕ}
 use lib.Dec.{eqb}
 use borrow.Author.Tests.{eq-eqb, ne_eqb, not-true}
@@ -9,8 +11,6 @@ use Rattle.laws.specs.Tests.{pick, both}
 use Rattle.file.specs.Format.{Fields}
 use Rattle.field.specs.Names.{field}
 use Rattle.field.specs.Values.{is_empty, given, value}
-use Rattle.walk.specs.declared.Found.{Found}
-use Rattle.walk.specs.declared.Found.TheVariants.{At, Nothing}
 use Rattle.keys.specs.Keys.{numbers, has, first_with}
 use Rattle.keys.proofs.KeyLaws.{has_found, has_none}
 use Rattle.link.specs.Links.{link_of, target, link_fields, reaches, met}
@@ -36,17 +36,17 @@ unfolding numbers
 two_key f g a b r e h = rw (e, h)
 
 -- what a search found says whether there is such a record
-module _ (file : ℕ) {j k : List ℕ} (rs : List Fields) (s : j ≡ k) {found : Found} (e : found ≡ first_with file j 0 rs) where
-  pub found_has : (p : ℕ) → found ≡ At p → has file k rs ≡ true
+module _ (file : ℕ) {j k : List ℕ} (rs : List Fields) (s : j ≡ k) {found : Option ℕ} (e : found ≡ first_with file j 0 rs) where
+  pub found_has : (p : ℕ) → found ≡ Some p → has file k rs ≡ true
   found_has p t = has_found file k 0 rs p (rw s at (sym e ∙ t))
 
-  pub nothing_has : found ≡ Nothing → has file k rs ≡ false
+  pub nothing_has : found ≡ None → has file k rs ≡ false
   nothing_has t = has_none file k 0 rs (rw s at (sym e ∙ t))
 
-  pub found_met : (p : ℕ) → found ≡ At p → 0 ≡ unmet (has file k rs)
+  pub found_met : (p : ℕ) → found ≡ Some p → 0 ≡ unmet (has file k rs)
   found_met p t = rw (found_has p t)
 
-  pub nothing_met : found ≡ Nothing → 8 ≡ unmet (has file k rs)
+  pub nothing_met : found ≡ None → 8 ≡ unmet (has file k rs)
   nothing_met t = rw (nothing_has t)
 
 -- Zasspoje's second code, and any other
@@ -54,11 +54,9 @@ module _ (file f : ℕ) where
   pub is_second : file ≡ 8 → f ≡ 7 → both (eqb file 8) (eqb f 7) ≡ true
   is_second e h = rw (eq-eqb file 8 e, eq-eqb f 7 h)
 
-  pub other_file : (file ≡ 8 → ⊥) → both (eqb file 8) (eqb f 7) ≡ false
-  other_file n = rw (ne_eqb file 8 n)
-
-  pub other_field : file ≡ 8 → (f ≡ 7 → ⊥) → both (eqb file 8) (eqb f 7) ≡ false
-  other_field e n = rw (eq-eqb file 8 e, ne_eqb f 7 n)
+  pub is_other : (file ≡ 8 → ⊥) ⊎ ((file ≡ 8) × (f ≡ 7 → ⊥)) → both (eqb file 8) (eqb f 7) ≡ false
+  is_other (inl n) = rw (ne_eqb file 8 n)
+  is_other (inr w) = rw (eq-eqb file 8 w.0, ne_eqb f 7 w.1)
 
 -- each link but a code has a sign that fits, so the link is all
 module _ (b : Batch) (file f : ℕ) (r : Fields) where

@@ -1,7 +1,8 @@
 -- Laws of a record that is looked at: its texts and their numbers, the record of Pevnykod that a search finds and its sign, and that a Zaslinky
 -- record's stop is met.
+use Rattle.std.specs.Prelude.{None, Some}
 use mathlib.Core.Path.{◌≡◌, refl, sym, ap, ◌∙◌}
-use mathlib.Core.Bool.{true, false}
+use mathlib.Core.Bool.{Bool, true, false}
 use mathlib.Core.List.{List, [], ◌∷◌, ◌++◌}
 use mathlib.Core.Logic.{◌⊎◌, inl, inr}
 use Prim.Native.Nat.{ℕ, ◌+◌, ◌-◌, ◌≤◌, ◌<◌}
@@ -9,7 +10,7 @@ use native.Mathlib.Omega.{arith}
 use lib.Dec.{ltb}
 use lib.ListN.{length, get_or, drop, length-append}
 use lib.Seq.{get_or-append-add}
-use borrow.Author.Tests.{eqb-true, ltb-true, ltb-false}
+use borrow.Author.Tests.{eqb-true, eqb-false, ltb-true, ltb-false}
 use Rattle.laws.specs.Tests.{either, never}
 use Rattle.file.specs.Files.{fields_of, field_counts}
 use Rattle.file.specs.Format.{Text, Fields, written_record, written}
@@ -20,7 +21,6 @@ use Rattle.field.specs.Names.{field}
 use Rattle.field.specs.Stage.{first_unkind}
 use Rattle.field.specs.Values.{is_empty, is_byte, among, all_digits, is_digits, value}
 use Rattle.walk.specs.Walk.{LegalFrom, Cuts, part_of}
-use Rattle.walk.specs.declared.Found.TheVariants.{At, Nothing}
 use Rattle.walk.proofs.WalkLaws.{cut_size, cut_first, none_left}
 use Rattle.lines.proofs.LineLaws.{size_cons, place_on, place_start, next_at}
 use Rattle.keys.specs.Keys.{key_of, same, has, first_with, none}
@@ -70,6 +70,21 @@ module _ {file : ℕ} {s places : List ℕ} (k : Kinded file s places) (f : ℕ)
         go (inl p) = absurd (z (eqb-true (length t) 0 p))
         go (inr p) = numeral t p
 
+    -- whether it is empty, and its number
+    pub code_is_empty : {b : Bool} → b ≡ is_empty t → is_empty (field f (texts file s places)) ≡ b
+    code_is_empty d = rw code_field (sym d)
+
+    pub code_number : {v : ℕ} → v ≡ value t → v ≡ value (field f (texts file s places))
+    code_number d = d ∙ ap (λ (x : Text). value x) (sym code_field)
+
+    -- it can be read, and its number is small, where it is not
+    module _ (g : is_empty (field f (texts file s places)) ≡ false) where
+      pub code_numeral : Numeral t
+      code_numeral = code_part (λ z. eqb-false (length (field f (texts file s places))) 0 g (ap (λ (x : Text). length x) code_field ∙ z))
+
+      pub code_small : value (field f (texts file s places)) < none
+      code_small = rw code_field code_numeral.small
+
 -- all records are of their kinds: so are the last ones, and so is the first
 kinds_tail : (file : ℕ) (a b : List Fields) → AllOfKind file (a ++ b) → AllOfKind file b
 unfolding AllOfKind
@@ -100,13 +115,13 @@ record Hit (c at : ℕ) (rs : List Fields) (p : ℕ) : Type 0 where
   size : p ≡ at + length (written past)
   sign : sign_in rs c ≡ first_byte (field 2 first)
 
-hit : (c at : ℕ) (rs : List Fields) (p : ℕ) → first_with 3 (c ∷ []) at rs ≡ At p → Hit c at rs p
+hit : (c at : ℕ) (rs : List Fields) (p : ℕ) → first_with 3 (c ∷ []) at rs ≡ Some p → Hit c at rs p
 unfolding first_with sign_in written
 hit c at [] p e = let z : ◌≡◌ {A = ℕ} 0 1 = cc in absurd (omega arith)
 hit c at (r ∷ rs) p e =
     either (same (key_of 3 r) (c ∷ []))
     (λ t.
-    let d : At at ≡ At p = rw t at e in
+    let d : Some at ≡ Some p = rw t at e in
     let z : at ≡ p = cc in
     record { past = []; first = r; rest = rs; whole = refl; size = omega arith; sign = rw t })
     (λ t. on t (hit c (at + length (written_record r)) rs p (rw t at e)))
@@ -127,7 +142,7 @@ pub record SignHere (s : List ℕ) (c p : ℕ) : Type 0 where
   pub within : p < length s
   pub sign : sign_in (records_in (fields_of 3) s) c ≡ first_byte (field 2 (record_at 3 s p))
 
-pub sign_found : (s : List ℕ) (c p : ℕ) → LegalFrom (fields_of 3) s 0 → first_with 3 (c ∷ []) 0 (records_in (fields_of 3) s) ≡ At p
+pub sign_found : (s : List ℕ) (c p : ℕ) → LegalFrom (fields_of 3) s 0 → first_with 3 (c ∷ []) 0 (records_in (fields_of 3) s) ≡ Some p
     → SignHere s c p
 sign_found s c p l e =
     let n = fields_of 3 in
@@ -143,13 +158,13 @@ sign_found s c p l e =
     }
 
 -- a code number that no record has, has no sign
-pub sign_none : (c at : ℕ) (rs : List Fields) → first_with 3 (c ∷ []) at rs ≡ Nothing → sign_in rs c ≡ 0
+pub sign_none : (c at : ℕ) (rs : List Fields) → first_with 3 (c ∷ []) at rs ≡ None → sign_in rs c ≡ 0
 unfolding first_with sign_in
 sign_none c at [] e = refl
 sign_none c at (r ∷ rs) e =
     either (same (key_of 3 r) (c ∷ []))
     (λ t.
-    let d : At at ≡ Nothing = rw t at e in
+    let d : Some at ≡ None = rw t at e in
     let z : ◌≡◌ {A = ℕ} 0 1 = cc in
     absurd (omega arith))
     (λ t. rw t (sign_none c (at + length (written_record r)) rs (rw t at e)))
@@ -181,7 +196,7 @@ unfolding code_kind kind_of kinds kind.zasspoje fields_of field_counts
 first_code file e = rw e (refl, omega arith, omega arith)
 
 -- what is known where a record is looked at
-module _ {b : Batch} {file : ℕ} {order ways last class : List ℕ} (k : Known b file order ways last class) where
+module _ {b : Batch} {file : ℕ} {order ways last : List ℕ} (k : Known b file order ways last) where
   -- a keyed file
   pub key_file : (x : ℕ) → IsKeyed x → KeyFile x (file_in b x)
   key_file x h = (k.looks.routes x h).serves.keyed
@@ -190,20 +205,19 @@ module _ {b : Batch} {file : ℕ} {order ways last class : List ℕ} (k : Known 
   kind_file x h = sound_kinds b x (k.sound x h.0 (omega (arith, h.1)))
 
   -- after a search
-  pub later : (l : List ℕ) → Lasts b l → Known b file order ways l class
+  pub later : (l : List ℕ) → Lasts b l → Known b file order ways l
   later l n = record {
     sound = k.sound;
     looks = record { size = k.looks.size; routes = k.looks.routes; lasts = n };
-    table = k.table;
     stops = k.stops;
   }
 
   -- the code that was found
-  pub code_there : (c p : ℕ) → first_with 3 (c ∷ []) 0 (records_of b 3) ≡ At p → SignHere (file_in b 3) c p
+  pub code_there : (c p : ℕ) → first_with 3 (c ∷ []) 0 (records_of b 3) ≡ Some p → SignHere (file_in b 3) c p
   code_there c p e = sign_found (file_in b 3) c p (key_file 3 (omega arith, omega arith)).legal e
 
-pub record_later : {b : Batch} {file : ℕ} {s places order ways last class : List ℕ} → Record b file s places order ways last class
-    → (l : List ℕ) → Lasts b l → Record b file s places order ways l class
+pub record_later : {b : Batch} {file : ℕ} {s places order ways last : List ℕ} → Record b file s places order ways last
+    → (l : List ℕ) → Lasts b l → Record b file s places order ways l
 record_later r l n = record { known = later r.known l n; kinded = r.kinded }
 
 -- the stop of a record of Zaslinky is met where all are

@@ -3,7 +3,6 @@ use Rattle.std.specs.Prelude.{ℕ, ◌≤◌, ◌<◌, ◌≡◌, Bool, true, Li
 use Rattle.laws.specs.Numbered.{answered}
 use Rattle.file.specs.Files.{fields_of}
 use Rattle.file.specs.Format.{Fields}
-use Rattle.file.specs.Reader.{Classes}
 use Rattle.walk.specs.Walk.{LegalFrom}
 use Rattle.field.specs.Names.{field}
 use Rattle.field.specs.Stage.{first_unkind, field_fault}
@@ -35,15 +34,14 @@ abbrev pub StopsMet : Batch → Type 0
 StopsMet b = (i : ℕ) → i < length (records_of b 7) → has 2 (value (field 4 (get_or (records_of b 7) i [])) ∷ []) (records_of b 2) ≡ true
 
 -- what is known where a record of this file is looked at
-pub record Known (b : Batch) (file : ℕ) (order ways last class : List ℕ) : Type 0 where
+pub record Known (b : Batch) (file : ℕ) (order ways last : List ℕ) : Type 0 where
   pub sound : SoundFiles b
   pub looks : Looks b order ways last
-  pub table : Classes class
   pub stops : file ≡ 8 → StopsMet b
 
 -- and of the record
-pub record Record (b : Batch) (file : ℕ) (s places order ways last class : List ℕ) : Type 0 where
-  pub known : Known b file order ways last class
+pub record Record (b : Batch) (file : ℕ) (s places order ways last : List ℕ) : Type 0 where
+  pub known : Known b file order ways last
   pub kinded : Kinded file s places
 
 -- the records of a file by itself are of their kinds

@@ -4,7 +4,6 @@
 ghost use Rattle.std.specs.Prelude.{◌≡◌, [], ◌∷◌, ◌+◌, ◌*◌, ◌≤◌, length};
 ghost use Rattle.laws.specs.Splice.{splice};
 ghost use Rattle.file.specs.Files.{fields_of};
-ghost use Rattle.file.specs.Reader.{Classes};
 ghost use Rattle.file.specs.Records.{records_in};
 ghost use Rattle.field.specs.Names.{lines_file, trip_stops_file, time_codes_file};
 ghost use Rattle.link.specs.Signs.{codes_file};
@@ -15,7 +14,8 @@ ghost use Rattle.asking.specs.Rows.{rows, row_at, questions};
 ghost use Rattle.answering.specs.Plainly.{plainly};
 
 use asking::{Row, put_row};
-use question::{is_asked, question_at, row_of};
+use lookup::Paths;
+use question::{question_at, row_of};
 use ticket::sale_on;
 
 // The answer to the question whose seven numbers start at place i.
@@ -28,18 +28,16 @@ fn ask_at(
     f7: &[u8],
     f8: &[u8],
     f10: &[u8],
-    order: &[u32],
-    ways: &[usize],
-    class: &[u8; 256],
+    paths: Paths,
     holidays: &[u64],
 ) -> Row
-    requires { (i + 7 ≤ length asked.now) × LinesMet (records_in (fields_of lines_file) f5.now) (records_in (fields_of trips_file) f6.now) × Ready codes_file f3.now order.now ways.now × Ready lines_file f5.now order.now ways.now × Ready trips_file f6.now order.now ways.now × Ready 7 f7.now order.now ways.now × Ready trip_stops_file f8.now order.now ways.now × Ready time_codes_file f10.now order.now ways.now × Classes class.now }
+    requires { (i + 7 ≤ length asked.now) × LinesMet (records_in (fields_of lines_file) f5.now) (records_in (fields_of trips_file) f6.now) × Ready codes_file f3.now paths.order.now paths.ways.now × Ready lines_file f5.now paths.order.now paths.ways.now × Ready trips_file f6.now paths.order.now paths.ways.now × Ready 7 f7.now paths.order.now paths.ways.now × Ready trip_stops_file f8.now paths.order.now paths.ways.now × Ready time_codes_file f10.now paths.order.now paths.ways.now }
     ensures { row_at (plainly (records_in (fields_of codes_file) f3.now) (records_in (fields_of lines_file) f5.now) (records_in (fields_of trips_file) f6.now) (records_in (fields_of 7) f7.now) (records_in (fields_of trip_stops_file) f8.now) (records_in (fields_of time_codes_file) f10.now) holidays.now) asked.now i ≡ result.number ∷ result.departure ∷ result.arrival ∷ [] }
 {
     let q = question_at(asked, i);
     row_of(sale_on(
-        q.line, q.trip, q.day, q.month, q.year, q.from, q.to, f3, f5, f6, f7, f8, f10, order, ways,
-        class, holidays,
+        q.line, q.trip, q.day, q.month, q.year, q.from, q.to, f3, f5, f6, f7, f8, f10, paths,
+        holidays,
     ))
 }
 
@@ -53,21 +51,15 @@ pub fn answer_all(
     f7: &[u8],
     f8: &[u8],
     f10: &[u8],
-    order: &[u32],
-    ways: &[usize],
-    class: &[u8; 256],
+    paths: Paths,
     holidays: &[u64],
 )
-    requires { (3 * questions asked.now ≤ length list.old) × LinesMet (records_in (fields_of lines_file) f5.now) (records_in (fields_of trips_file) f6.now) × Ready codes_file f3.now order.now ways.now × Ready lines_file f5.now order.now ways.now × Ready trips_file f6.now order.now ways.now × Ready 7 f7.now order.now ways.now × Ready trip_stops_file f8.now order.now ways.now × Ready time_codes_file f10.now order.now ways.now × Classes class.now }
+    requires { (3 * questions asked.now ≤ length list.old) × LinesMet (records_in (fields_of lines_file) f5.now) (records_in (fields_of trips_file) f6.now) × Ready codes_file f3.now paths.order.now paths.ways.now × Ready lines_file f5.now paths.order.now paths.ways.now × Ready trips_file f6.now paths.order.now paths.ways.now × Ready 7 f7.now paths.order.now paths.ways.now × Ready trip_stops_file f8.now paths.order.now paths.ways.now × Ready time_codes_file f10.now paths.order.now paths.ways.now }
     ensures { list.new ≡ splice list.old 0 (rows (plainly (records_in (fields_of codes_file) f3.now) (records_in (fields_of lines_file) f5.now) (records_in (fields_of trips_file) f6.now) (records_in (fields_of 7) f7.now) (records_in (fields_of trip_stops_file) f8.now) (records_in (fields_of time_codes_file) f10.now) holidays.now) asked.now) }
 {
-    let mut i = 0;
     let mut at = 0;
-    while is_asked(asked, i) {
-        let row = ask_at(
-            asked, i, f3, f5, f6, f7, f8, f10, order, ways, class, holidays,
-        );
+    for k in 0..asked.len() / 7 {
+        let row = ask_at(asked, 7 * k, f3, f5, f6, f7, f8, f10, paths, holidays);
         at = put_row(list, at, row);
-        i += 7;
     }
 }

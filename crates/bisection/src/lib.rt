@@ -46,27 +46,20 @@ fn look(file: u64, s: &[u8], left: Left, mid: usize, x: Key) -> Left
 {
     let to = line_after(s, mid);
     if to >= left.hi {
-        return Left {
-            lo: left.lo,
-            hi: mid,
-            below: left.below,
-            above: left.above,
-        };
+        return Left { hi: mid, ..left };
     }
     let k = key_at(file, s, to);
     if less(k, x) {
         return Left {
             lo: to,
-            hi: left.hi,
             below: k.hi,
-            above: left.above,
+            ..left
         };
     }
     Left {
-        lo: left.lo,
         hi: mid,
-        below: left.below,
         above: k.hi,
+        ..left
     }
 }
 
@@ -77,8 +70,7 @@ fn first_key(file: u64, s: &[u8], hi: usize) -> u64
     if hi <= 128 {
         return 0;
     }
-    let k = key_at(file, s, 0);
-    k.hi
+    key_at(file, s, 0).hi
 }
 
 // inner: the first record of the whole file whose key isn't below x, by bisection: behind the next LF from a place on a record starts. The looks go
@@ -103,15 +95,11 @@ pub fn bisect(file: u64, s: &[u8], hi: usize, above: u64, x: Key) -> usize
     ensures { result ≡ first_from (rank_of file) (rank_key x) 0 (records_in (fields_of file) s.now) }
 {
     let below = first_key(file, s, hi);
-    narrow(
-        file,
-        s,
-        Left {
-            lo: 0,
-            hi: hi,
-            below: below,
-            above: above,
-        },
-        x,
-    )
+    let whole = Left {
+        lo: 0,
+        hi,
+        below,
+        above,
+    };
+    narrow(file, s, whole, x)
 }

@@ -2,7 +2,7 @@
 #![tactic(auto)]
 
 ghost use Rattle.std.specs.Prelude.{◌≡◌};
-ghost use Rattle.laws.specs.Tests.{both, one_of};
+ghost use Rattle.laws.specs.Tests.{one_of};
 ghost use Rattle.boarding.specs.Answers.{numbered_sold};
 ghost use Rattle.boarding.specs.Plain.{passed_first, left_of, sold_of};
 
@@ -48,23 +48,11 @@ pub struct Served {
 pub fn one_of(a: bool, b: bool) -> bool
     ensures { result ≡ one_of a b }
 {
-    if a {
-        return true;
-    }
-    b
-}
-
-// Both are so.
-fn both_of(a: bool, b: bool) -> bool
-    ensures { result ≡ both a b }
-{
-    if a {
-        return b;
-    }
-    false
+    a || b
 }
 
 // inner: whether the first of two tariff numbers is passed before the second
+#[tactic(auto, unfolding(crate::specs::Plain::passed_first))]
 pub fn passed_first(trip: u64, from: u64, to: u64) -> bool
     ensures { result ≡ passed_first trip from to }
 {
@@ -75,16 +63,14 @@ pub fn passed_first(trip: u64, from: u64, to: u64) -> bool
 }
 
 // 18 and 19, and the answer, for a first stop where one can board.
+#[tactic(auto, unfolding(crate::specs::Plain::left_of, crate::specs::Answers::numbered_sold))]
 fn left_at(first: Served, second: Served) -> Sold
     ensures { numbered_sold result ≡ left_of first second }
 {
-    if !one_of(second.arrives, second.departs) {
+    if !(second.arrives || second.departs) || second.no_leaving {
         return Sold::NoLeaving;
     }
-    if second.no_leaving {
-        return Sold::NoLeaving;
-    }
-    if both_of(first.section, second.section) {
+    if first.section && second.section {
         return Sold::OneSection;
     }
     if second.arrives {
@@ -94,13 +80,11 @@ fn left_at(first: Served, second: Served) -> Sold
 }
 
 // inner: 17 to 19, and the answer
+#[tactic(auto, unfolding(crate::specs::Plain::sold_of, crate::specs::Answers::numbered_sold))]
 pub fn boarded_at(first: Served, second: Served) -> Sold
     ensures { numbered_sold result ≡ sold_of first second }
 {
-    if !first.departs {
-        return Sold::NoBoarding;
-    }
-    if first.no_boarding {
+    if !first.departs || first.no_boarding {
         return Sold::NoBoarding;
     }
     left_at(first, second)

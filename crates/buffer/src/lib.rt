@@ -2,10 +2,10 @@
 #![tactic(auto)]
 
 ghost use Rattle.std.specs.Prelude.{◌≡◌, true, ◌≤◌, length};
-ghost use Rattle.buffer.specs.Buffer.{Stand, part_of};
+ghost use Rattle.thirteen.specs.Lent.{batch_of};
+ghost use Rattle.buffer.specs.Buffer.{Stand, part_of, parts_of};
 
 use filenames::read_numbered;
-use loading::Filled;
 use std::rt::Files;
 
 // inner: reads all files, one behind the other; `ends[file]` is the place after each. Whether each was read.
@@ -13,13 +13,10 @@ pub fn gather(rt: &(impl Files + Eprint), buf: &mut [u8], ends: &mut [usize; 14]
     requires { 14 ≤ length ends.old }
     ensures { result ≡ true → Stand 13 (length buf.old) ends.new }
 {
-    let mut file = 0;
     let mut at = 0;
-    ends[file] = at;
-    while file < 13 {
-        file += 1;
-        let filled = read_numbered(rt, file, buf, at);
-        let Filled::To(next) = filled else {
+    ends[0] = at;
+    for file in 1..14 {
+        let Some(next) = read_numbered(rt, file, buf, at) else {
             return false;
         };
         at = next;
@@ -28,13 +25,32 @@ pub fn gather(rt: &(impl Files + Eprint), buf: &mut [u8], ends: &mut [usize; 14]
     true
 }
 
-// inner: the bytes of a file
-pub fn part<'a>(buf: &'a [u8], ends: &[usize; 14], file: usize) -> &'a [u8]
+// The bytes of a file.
+fn part<'a>(buf: &'a [u8], ends: &[usize; 14], file: usize) -> &'a [u8]
     requires { Stand 13 (length buf.now) ends.now × (1 ≤ file) × (file ≤ 13) }
     ensures { result.now ≡ part_of buf.now ends.now file }
 {
-    let before = file - 1;
-    let from = ends[before];
-    let to = ends[file];
-    &buf[from..to]
+    &buf[ends[file - 1]..ends[file]]
+}
+
+// inner: the thirteen files
+pub fn parts<'a>(buf: &'a [u8], ends: &[usize; 14]) -> thirteen::Files<'a>
+    requires { Stand 13 (length buf.now) ends.now }
+    ensures { batch_of result ≡ parts_of buf.now ends.now }
+{
+    thirteen::Files {
+        version: part(buf, ends, 1),
+        stops: part(buf, ends, 2),
+        codes: part(buf, ends, 3),
+        carriers: part(buf, ends, 4),
+        lines: part(buf, ends, 5),
+        trips: part(buf, ends, 6),
+        line_stops: part(buf, ends, 7),
+        trip_stops: part(buf, ends, 8),
+        notes: part(buf, ends, 9),
+        time_codes: part(buf, ends, 10),
+        other_carriers: part(buf, ends, 11),
+        other_lines: part(buf, ends, 12),
+        seats: part(buf, ends, 13),
+    }
 }

@@ -13,92 +13,85 @@ use entries::place_of;
 use field::value_of;
 use find::{with_one, with_two};
 use following::next_of_trip;
-use lookup::index_of;
+use lookup::{Paths, index_of};
 use preceding::previous_of_trip;
-use walk::{Found, part};
+use walk::{CutRecord, part};
 
 // inner: the place of the trip's next record from x on, upward, or of the last one below x, downward; the end of the file if there is none
 pub fn along(
     file: u64,
     s: &[u8],
-    order: &[u32],
-    ways: &[usize],
+    paths: Paths,
     last: usize,
     up: bool,
     line: u64,
     trip: u64,
     x: u64,
 ) -> usize
-    requires { Walks file s.now order.now ways.now last × (line < none) × (trip < none) }
+    requires { Walks file s.now paths.order.now paths.ways.now last × (line < none) × (trip < none) }
     ensures { result ≡ place_of s.now (step_of file up line trip x (records_in (fields_of file) s.now)) }
 {
-    let i = (file as usize) * 3;
-    let part = index_of(order, ways, file);
+    let rising = paths.ways[(file as usize) * 3] == 1;
+    let part = index_of(paths, file);
     if up {
-        return place_of(
+        place_of(s, next_of_trip(file, s, rising, part, last, line, trip, x))
+    } else {
+        place_of(
             s,
-            next_of_trip(file, s, ways[i] == 1, part, last, line, trip, x),
-        );
+            previous_of_trip(file, s, rising, part, last, line, trip, x),
+        )
     }
-    place_of(
-        s,
-        previous_of_trip(file, s, ways[i] == 1, part, last, line, trip, x),
-    )
 }
 
 // inner: the place of the trip's record behind the one that was cut, upward or downward; the end of the file if there is none
 pub fn onward(
     file: u64,
-    s: &[u8],
-    places: &[usize; 14],
-    order: &[u32],
-    ways: &[usize],
+    row: CutRecord,
+    paths: Paths,
     at: usize,
     up: bool,
     line: u64,
     trip: u64,
 ) -> usize
-    requires { Walks file s.now order.now ways.now at × Kinded file s.now places.now × (line < none) × (trip < none) }
-    ensures { result ≡ place_of s.now (step_of file up line trip (after up (third file (texts file s.now places.now))) (records_in (fields_of file) s.now)) }
+    requires { Walks file row.bytes.now paths.order.now paths.ways.now at × Kinded file row.bytes.now row.places.now × (line < none) × (trip < none) }
+    ensures { result ≡ place_of row.entry.bytes.now (step_of file up line trip (after up (third file (texts file row.entry.bytes.now row.entry.places.now))) (records_in (fields_of file) row.entry.bytes.now)) }
 {
-    let number = value_of(part(s, places, 2));
-    if up {
-        return along(file, s, order, ways, at, up, line, trip, number + 1);
-    }
-    along(file, s, order, ways, at, up, line, trip, number)
+    let number = value_of(part(row, 2));
+    let x = if up { number + 1 } else { number };
+    along(file, row.bytes, paths, at, up, line, trip, x)
 }
 
 // inner: the first record of a file whose key is one number
-pub fn by_one(file: u64, s: &[u8], order: &[u32], ways: &[usize], a: u64) -> Found
-    requires { (33 ≤ length ways.now) × Way file s.now order.now (how_of ways.now file) (from_of ways.now file) (to_of ways.now file) × (length (key_fields file) ≡ 1) × (a < none) }
+pub fn by_one(file: u64, s: &[u8], paths: Paths, a: u64) -> Option<usize>
+    requires { (33 ≤ length paths.ways.now) × Way file s.now paths.order.now (how_of paths.ways.now file) (from_of paths.ways.now file) (to_of paths.ways.now file) × (length (key_fields file) ≡ 1) × (a < none) }
     ensures { result ≡ first_with file (a ∷ []) 0 (records_in (fields_of file) s.now) }
 {
     let i = (file as usize) * 3;
     let hit = with_one(
         file,
         s,
-        ways[i] == 1,
-        index_of(order, ways, file),
+        paths.ways[i] == 1,
+        index_of(paths, file),
         0,
-        order.len(),
+        paths.order.len(),
         a,
     );
     hit.found
 }
 
 // inner: the same by two numbers
-pub fn by_two(file: u64, s: &[u8], order: &[u32], ways: &[usize], a: u64, b: u64) -> Found
-    requires { (33 ≤ length ways.now) × Way file s.now order.now (how_of ways.now file) (from_of ways.now file) (to_of ways.now file) × (length (key_fields file) ≡ 2) × (a < none) × (b < none) }
+pub fn by_two(file: u64, s: &[u8], paths: Paths, a: u64, b: u64) -> Option<usize>
+    requires { (33 ≤ length paths.ways.now) × Way file s.now paths.order.now (how_of paths.ways.now file) (from_of paths.ways.now file) (to_of paths.ways.now file) × (length (key_fields file) ≡ 2) × (a < none) × (b < none) }
     ensures { result ≡ first_with file (a ∷ b ∷ []) 0 (records_in (fields_of file) s.now) }
 {
     let i = (file as usize) * 3;
     let hit = with_two(
         file,
         s,
-        ways[i] == 1,
-        index_of(order, ways, file),
+        paths.ways[i] == 1,
+        index_of(paths, file),
         0,
-        order.len(),
+        paths.order.len(),
         a,
         b,
     );

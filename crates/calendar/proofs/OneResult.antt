@@ -1,14 +1,11 @@
 -- Each answer's numbering tells all cases apart, so that the promise of each call allows one result only (the table in the crate `determined`).
-use Rattle.std.specs.Prelude.{◌≡◌, refl, Bool, true, false, List, [], ◌∷◌, ℕ}
+use Rattle.std.specs.Prelude.{◌≡◌, refl, Bool, true, false, [], ◌∷◌, Some, None}
 use Rattle.std.proofs.Common.{ap, arith}
 use Rattle.laws.specs.Tests.{bit}
 use Rattle.laws.specs.Numbered.{Numbered}
 use Rattle.laws.specs.Settled.{OneToOne}
-use Rattle.calendar.specs.declared.Day.TheVariants.{At, NotReal}
-use Rattle.calendar.specs.declared.Date.TheVariants.{On, NoDate}
-use Rattle.calendar.specs.declared.DayOfWeek.TheVariants.{Is, NoWeekday}
-use Rattle.calendar.specs.declared.Week.TheVariants.{Counted, NoWeek}
-use Rattle.calendar.specs.declared.Whether.TheVariants.{Yes, Not, NoDay}
+use Rattle.calendar.specs.declared.Date.{Date}
+use Rattle.calendar.specs.declared.Week.{Week}
 use Rattle.calendar.specs.Answers.{numbered_day, numbered_date, numbered_weekday, numbered_week, numbered_whether}
 
 -- an answer is no refusal; equal answers have equal values
@@ -29,44 +26,47 @@ bits false false e = refl
 
 pub day_one : OneToOne numbered_day
 unfolding numbered_day
-day_one (At n) (At m) e = let v : n ∷ [] ≡ m ∷ [] = values _ _ e in cc
-day_one (At n) NotReal e = apart _ _ e refl refl
-day_one NotReal (At m) e = apart' _ _ e refl refl
-day_one NotReal NotReal e = refl
+day_one (Some n) (Some m) e = let v : n ∷ [] ≡ m ∷ [] = values _ _ e in cc
+day_one (Some n) None e = apart _ _ e refl refl
+day_one None (Some m) e = apart' _ _ e refl refl
+day_one None None e = refl
+
+date_same : (s t : Date) → s.day ≡ t.day → s.month ≡ t.month → s.year ≡ t.year → s ≡ t
+date_same s t d m y = λ i. record { day = d i; month = m i; year = y i }
 
 pub date_one : OneToOne numbered_date
 unfolding numbered_date
-date_one (On d m y) (On d' m' y') e = let v : d ∷ m ∷ y ∷ [] ≡ d' ∷ m' ∷ y' ∷ [] = values _ _ e in cc
-date_one (On d m y) NoDate e = apart _ _ e refl refl
-date_one NoDate (On d m y) e = apart' _ _ e refl refl
-date_one NoDate NoDate e = refl
+date_one (Some s) (Some t) e =
+    let v : s.day ∷ s.month ∷ s.year ∷ [] ≡ t.day ∷ t.month ∷ t.year ∷ [] = values _ _ e in
+    ap Some (date_same s t (cc) (cc) (cc))
+date_one (Some s) None e = apart _ _ e refl refl
+date_one None (Some t) e = apart' _ _ e refl refl
+date_one None None e = refl
 
 pub weekday_one : OneToOne numbered_weekday
 unfolding numbered_weekday
-weekday_one (Is n) (Is m) e = let v : n ∷ [] ≡ m ∷ [] = values _ _ e in cc
-weekday_one (Is n) NoWeekday e = apart _ _ e refl refl
-weekday_one NoWeekday (Is m) e = apart' _ _ e refl refl
-weekday_one NoWeekday NoWeekday e = refl
+weekday_one (Some n) (Some m) e = let v : n ∷ [] ≡ m ∷ [] = values _ _ e in cc
+weekday_one (Some n) None e = apart _ _ e refl refl
+weekday_one None (Some m) e = apart' _ _ e refl refl
+weekday_one None None e = refl
+
+week_same : (s t : Week) → s.number ≡ t.number → s.odd ≡ t.odd → s ≡ t
+week_same s t n o = λ i. record { number = n i; odd = o i }
 
 pub week_one : OneToOne numbered_week
 unfolding numbered_week
-week_one (Counted n s) (Counted m t) e =
-    let v : n ∷ bit s ∷ [] ≡ m ∷ bit t ∷ [] = values _ _ e in
-    let b : bit s ≡ bit t = cc in
-    let o : s ≡ t = bits s t b in
-    cc
-week_one (Counted n s) NoWeek e = apart _ _ e refl refl
-week_one NoWeek (Counted m t) e = apart' _ _ e refl refl
-week_one NoWeek NoWeek e = refl
+week_one (Some s) (Some t) e =
+    let v : s.number ∷ bit s.odd ∷ [] ≡ t.number ∷ bit t.odd ∷ [] = values _ _ e in
+    ap Some (week_same s t (cc) (bits s.odd t.odd (cc)))
+week_one (Some s) None e = apart _ _ e refl refl
+week_one None (Some t) e = apart' _ _ e refl refl
+week_one None None e = refl
 
 pub whether_one : OneToOne numbered_whether
 unfolding numbered_whether
-whether_one Yes Yes e = refl
-whether_one Yes Not e = let v : ◌≡◌ {A = List ℕ} (1 ∷ []) (0 ∷ []) = values _ _ e in let z : ◌≡◌ {A = ℕ} 1 0 = cc in absurd (omega arith)
-whether_one Yes NoDay e = apart _ _ e refl refl
-whether_one Not Yes e = let v : ◌≡◌ {A = List ℕ} (0 ∷ []) (1 ∷ []) = values _ _ e in let z : ◌≡◌ {A = ℕ} 0 1 = cc in absurd (omega arith)
-whether_one Not Not e = refl
-whether_one Not NoDay e = apart _ _ e refl refl
-whether_one NoDay Yes e = apart' _ _ e refl refl
-whether_one NoDay Not e = apart' _ _ e refl refl
-whether_one NoDay NoDay e = refl
+whether_one (Some s) (Some t) e =
+    let v : bit s ∷ [] ≡ bit t ∷ [] = values _ _ e in
+    ap Some (bits s t (cc))
+whether_one (Some s) None e = apart _ _ e refl refl
+whether_one None (Some t) e = apart' _ _ e refl refl
+whether_one None None e = refl

@@ -2,10 +2,11 @@
 use mathlib.Core.Path.{◌≡◌, refl, sym, ap, ◌∙◌}
 use mathlib.Core.Bool.{Bool, true}
 use mathlib.Core.List.{List, [], ◌∷◌}
-use Prim.Native.Nat.{ℕ, ◌%◌, ◌≤◌, ◌<◌}
+use Prim.Native.Nat.{ℕ, ◌%◌, ◌≤◌, ◌<◌, max}
 use native.Mathlib.Omega.{arith}
 use lib.Dec.{eqb, leb}
 use lib.ListN.{length}
+use borrow.Author.Tests.{leb-true, leb-false}
 use Rattle.laws.specs.Tests.{pick, either}
 use Rattle.file.specs.Files.{fields_of}
 use Rattle.file.specs.Format.{Fields}
@@ -95,14 +96,18 @@ module _ (s order ways : List ℕ) (ready : Ready 8 s order ways) (line trip : �
       onward_next = left_next 8 s order ways ready three_numbers line trip l t (goes_up trip) at h cut next e
 
       pub passing_next : (v : Visit) → v ≡ visit_of (texts 8 s places) → (k : Track) → k ≡ track_on c v → (m : ℕ) → m ≡ time_on time v
-          → (n : ℕ) → n ≡ length_on len v → (far : ℕ) → far ≡ pick (leb near at) at near → Passing s line trip far next k m n
+          → (n : ℕ) → n ≡ length_on len v → (far : ℕ) → far ≡ max near at → Passing s line trip far next k m n
       unfolding track_behind time_behind length_behind
       passing_next v ve k ke m me n ne far fe =
           let o = onward_next.1 in
           record {
             place = onward_next.0;
             mine = step_mine 8 s order ways ready three_numbers line trip l t (goes_up trip) (after (goes_up trip) (third 8 (texts 8 s places))) next e;
-            last = rw fe (either (leb near at) (λ d. rw d w.place) (λ d. rw d w.last));
+            last =
+                rw fe
+                (either (leb near at)
+                (λ d. let l = leb-true near at d in let z : max near at ≡ at = omega arith in rw z w.place)
+                (λ d. let l = leb-false near at d in let z : max near at ≡ near = omega arith in rw z w.last));
             track = rw (ke, ve) (rw o at w.track);
             times = rw (me, ve) (rw o at w.times);
             lengths = rw (ne, ve) (rw o at w.lengths);

@@ -40,6 +40,7 @@ pub struct CheckResult {
 }
 
 // inner: a refusal whose place is a record, or a field of it.
+#[tactic(auto, unfolding(crate::specs::Results::fields_result))]
 pub fn found_in(number: u64, file: u64, row: u64, column: u64) -> FieldsResult
     ensures { result ≡ fields_result (refused_in number file row column) }
 {
@@ -53,6 +54,7 @@ pub fn found_in(number: u64, file: u64, row: u64, column: u64) -> FieldsResult
 }
 
 // inner: a file's own refusal.
+#[tactic(auto, using(crate::proofs::RefusedLaws::refused_fields))]
 pub fn in_file(why: Refusal) -> FieldsResult
     ensures { result ≡ fields_result (numbered why) }
 {
@@ -67,6 +69,7 @@ pub fn in_file(why: Refusal) -> FieldsResult
 }
 
 // inner: document 01's number and place of a fault.
+#[tactic(auto, unfolding(fault::specs::Answers::numbered_fault))]
 pub fn handed(fault: Fault) -> FieldsResult
     ensures { result ≡ fields_result (numbered_fault fault) }
 {
@@ -85,6 +88,7 @@ pub fn handed(fault: Fault) -> FieldsResult
 }
 
 // inner: document 01's number, place and counts of a verdict.
+#[tactic(auto, using(crate::proofs::RefusedLaws::refused_check), unfolding(outcome::specs::Answers::numbered_verdict, crate::specs::Results::check_result))]
 pub fn judged(v: Verdict) -> CheckResult
     ensures { result ≡ check_result (numbered_verdict v) }
 {

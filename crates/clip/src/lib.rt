@@ -3,34 +3,32 @@
 #![tactic(auto)]
 
 ghost use Rattle.std.specs.Prelude.{◌<◌, length};
-ghost use Rattle.file.specs.Reader.{Classes};
 ghost use Rattle.walk.specs.Walk.{RecordAt, Cuts};
 
 use lines::line_after;
 use quotes::text_end;
 
 // Marks where each text starts. The places come as a slice, since the proof has to know how many there are.
-fn mark(s: &[u8], at: usize, n: usize, class: &[u8; 256], places: &mut [usize]) -> usize
-    requires { RecordAt n s.now at × Classes class.now × (n < length places.old) }
+fn mark(s: &[u8], at: usize, n: usize, places: &mut [usize]) -> usize
+    requires { RecordAt n s.now at × (n < length places.old) }
     ensures { Cuts n s.now at places.old places.new result }
 {
     let mut start = at + 1;
-    let mut i = 0;
-    while i + 1 < n {
+    let last = n - 1;
+    for i in 0..last {
         places[i] = start;
-        start = text_end(s, start, class) + 3;
-        i += 1;
+        start = text_end(s, start) + 3;
     }
-    places[i] = start;
+    places[last] = start;
     let next = line_after(s, start);
     places[n] = next - 1;
     next
 }
 
 // inner: cuts the record of n texts that starts at `at`, and answers where the next one starts; the same promise as `walk::cut`
-pub fn cut(s: &[u8], at: usize, n: usize, class: &[u8; 256], places: &mut [usize; 14]) -> usize
-    requires { RecordAt n s.now at × Classes class.now }
+pub fn cut(s: &[u8], at: usize, n: usize, places: &mut [usize; 14]) -> usize
+    requires { RecordAt n s.now at }
     ensures { Cuts n s.now at places.old places.new result }
 {
-    mark(s, at, n, class, places)
+    mark(s, at, n, places)
 }

@@ -21,6 +21,12 @@ use Rattle.link.specs.Signs.{first_byte}
 use Rattle.trip.specs.Days.{type_of, has_type, holds, two_weeks, beside_three, week_allows}
 use Rattle.codes.specs.Seen.{Seen, Held}
 
+-- TESTS ONE AFTER ANOTHER
+-- of three, the first two hold or don't
+pub both_first : (a b c : Bool) → both a (both b c) ≡ both (both a b) c
+both_first true b c = refl
+both_first false b c = refl
+
 -- A PLACE OF 0 AND 1
 -- is 0 where its test fails, and is no 0 where it holds
 bit_off : {n : ℕ} (b : Bool) → n ≡ bit b → n ≡ 0 → b ≡ false

@@ -13,42 +13,42 @@ ghost use Rattle.trip.specs.Days.{type_of, holds_day, two_marks, two_weeks, one_
 ghost use Rattle.codes.specs.Seen.{Flags, Seen, Held};
 
 use field::{day_of, value_of};
-use walk::part;
+use walk::{CutRecord, part};
 
 // inner: the type of a time code; 0 if it has none
-pub fn type_of(s: &[u8], places: &[usize; 14]) -> u64
-    requires { Kinded time_codes_file s.now places.now }
-    ensures { (result ≡ type_of (texts time_codes_file s.now places.now)) × (result ≤ 8) }
+pub fn type_of(row: CutRecord) -> u64
+    requires { Kinded time_codes_file row.bytes.now row.places.now }
+    ensures { (result ≡ type_of (texts time_codes_file row.entry.bytes.now row.entry.places.now)) × (result ≤ 8) }
 {
-    let t = part(s, places, 4);
-    if t.len() == 0 {
+    let t = part(row, 4);
+    if t.is_empty() {
         return 0;
     }
-    (t[0] - b'0') as u64
+    u64::from(t[0] - b'0')
 }
 
 // inner: whether the period of a time code holds day d
-pub fn holds_day(s: &[u8], places: &[usize; 14], d: u64) -> bool
-    requires { Kinded time_codes_file s.now places.now }
-    ensures { result ≡ holds_day d (texts time_codes_file s.now places.now) }
+pub fn holds_day(row: CutRecord, d: u64) -> bool
+    requires { Kinded time_codes_file row.bytes.now row.places.now }
+    ensures { result ≡ holds_day d (texts time_codes_file row.entry.bytes.now row.entry.places.now) }
 {
-    let from = part(s, places, 5);
-    if from.len() == 0 {
+    let from = part(row, 5);
+    if from.is_empty() {
         return false;
     }
-    let to = part(s, places, 6);
-    if to.len() == 0 {
+    let to = part(row, 6);
+    if to.is_empty() {
         return periods::period_holds(day_of(from), false, 0, d);
     }
     periods::period_holds(day_of(from), true, day_of(to), d)
 }
 
 // inner: the value of the mark of a time code that has a type
-pub fn mark_of(s: &[u8], places: &[usize; 14]) -> u64
-    requires { Kinded time_codes_file s.now places.now × (meets time_codes_file (texts time_codes_file s.now places.now) ≡ true) × (type_of (texts time_codes_file s.now places.now) ≡ 0 → ⊥) }
-    ensures { result ≡ value (mark (texts time_codes_file s.now places.now)) }
+pub fn mark_of(row: CutRecord) -> u64
+    requires { Kinded time_codes_file row.bytes.now row.places.now × (meets time_codes_file (texts time_codes_file row.bytes.now row.places.now) ≡ true) × (type_of (texts time_codes_file row.bytes.now row.places.now) ≡ 0 → ⊥) }
+    ensures { result ≡ value (mark (texts time_codes_file row.entry.bytes.now row.entry.places.now)) }
 {
-    value_of(part(s, places, 3))
+    value_of(part(row, 3))
 }
 
 // Two different types out of 5 to 8.
@@ -72,10 +72,7 @@ fn one_with_weeks(seen: &[u64]) -> bool
     requires { Flags seen.now }
     ensures { (codes : List Fields) → Seen codes seen.now → result ≡ one_with_weeks codes }
 {
-    if seen[1] == 0 {
-        return false;
-    }
-    seen[7] + seen[8] > 0
+    seen[1] != 0 && seen[7] + seen[8] > 0
 }
 
 // inner: whether a trip isn't refused with 10; `differ` says that its marks differ, and `dated` that one of its signs is a day sign
@@ -83,22 +80,10 @@ pub fn days_fit(seen: &[u64], differ: bool, dated: bool) -> bool
     requires { Flags seen.now }
     ensures { (day : List ℕ) (codes : List Fields) → Seen codes seen.now → differ ≡ two_marks codes → dated ≡ has_day_sign day → result ≡ days_fit day codes }
 {
-    if differ {
-        return false;
-    }
-    if two_weeks(seen) {
-        return false;
-    }
-    if one_with_weeks(seen) {
-        return false;
-    }
-    if seen[3] == 0 {
-        return true;
-    }
-    if beside_three(seen) {
-        return false;
-    }
-    !dated
+    !differ
+        && !two_weeks(seen)
+        && !one_with_weeks(seen)
+        && (seen[3] == 0 || !beside_three(seen) && !dated)
 }
 
 // What a type that a trip may have asks of day d: its week, and a period that holds d. `there` is 0 if the trip has none of that type, and `held` is 0
@@ -107,13 +92,7 @@ fn type_allows(t: u64, d: u64, there: u64, held: u64) -> bool
     requires { d ≤ 73048 }
     ensures { result ≡ pick (eqb there 0) true (both (parity_fits t d) (not (eqb held 0))) }
 {
-    if there == 0 {
-        return true;
-    }
-    if !periods::parity_fits(t, d) {
-        return false;
-    }
-    held != 0
+    there == 0 || periods::parity_fits(t, d) && held != 0
 }
 
 // What the weeks of 5 to 8 ask of day d.
@@ -121,16 +100,10 @@ fn weeks_allow(seen: &[u64], held: &[u64], d: u64) -> bool
     requires { Flags seen.now × Flags held.now × (d ≤ 73048) }
     ensures { (codes : List Fields) → Seen codes seen.now → Held d codes held.now → result ≡ weeks_allow codes d }
 {
-    if !type_allows(5, d, seen[5], 1) {
-        return false;
-    }
-    if !type_allows(6, d, seen[6], 1) {
-        return false;
-    }
-    if !type_allows(7, d, seen[7], held[7]) {
-        return false;
-    }
-    type_allows(8, d, seen[8], held[8])
+    type_allows(5, d, seen[5], 1)
+        && type_allows(6, d, seen[6], 1)
+        && type_allows(7, d, seen[7], held[7])
+        && type_allows(8, d, seen[8], held[8])
 }
 
 // inner: whether a trip's time codes allow day d; `allowed` says whether its day signs do
@@ -144,14 +117,5 @@ pub fn codes_allow(seen: &[u64], held: &[u64], d: u64, allowed: bool) -> bool
     if held[4] == 1 {
         return false;
     }
-    if held[2] == 1 {
-        return true;
-    }
-    if !allowed {
-        return false;
-    }
-    if !type_allows(1, d, seen[1], held[1]) {
-        return false;
-    }
-    weeks_allow(seen, held, d)
+    held[2] == 1 || allowed && type_allows(1, d, seen[1], held[1]) && weeks_allow(seen, held, d)
 }

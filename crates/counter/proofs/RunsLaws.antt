@@ -1,4 +1,5 @@
 -- Whether a trip runs: on a batch with no fault each trip's line is there and the records say what the line's view says.
+use Rattle.std.specs.Prelude.{None, Option, Some}
 use mathlib.Core.Path.{◌≡◌, refl}
 use mathlib.Core.Bool.{Bool, true, false, not}
 use mathlib.Core.List.{List, [], ◌∷◌}
@@ -13,8 +14,6 @@ use Rattle.file.specs.Format.{Fields}
 use Rattle.file.specs.Records.{records_in}
 use Rattle.field.specs.Names.{lines_file, time_codes_file}
 use Rattle.walk.specs.Walk.{LegalFrom}
-use Rattle.walk.specs.declared.Found.{Found}
-use Rattle.walk.specs.declared.Found.TheVariants.{At, Nothing}
 use Rattle.keys.specs.Keys.{has, first_with}
 use Rattle.keys.specs.Ranks.{record_at}
 use Rattle.keys.proofs.KeyLaws.{has_found, has_none}
@@ -41,7 +40,7 @@ answer_none codes lines times rs line trip d holidays e = rw e
 
 -- and where one is, it runs or doesn't
 pub answer_found : (codes lines times : List Fields) (s : List ℕ) (line trip p d : ℕ) (holidays : List ℕ) → LegalFrom (fields_of trips_file) s 0
-    → first_with trips_file (line ∷ trip ∷ []) 0 (records_in (fields_of trips_file) s) ≡ At p
+    → first_with trips_file (line ∷ trip ∷ []) 0 (records_in (fields_of trips_file) s) ≡ Some p
     → plain_answer codes lines (records_in (fields_of trips_file) s) times line trip d holidays
     ≡ answered (bit (plain_runs codes lines times line trip (record_at trips_file s p) holidays d) ∷ [])
 unfolding plain_answer
@@ -54,16 +53,16 @@ answer_view : (b : Batch) (line trip d : ℕ) (holidays : List ℕ) → LegalFro
     ≡ pick (has_trip b line trip) (answered (bit (runs_on (view_of b line) trip holidays d) ∷ [])) (refused 13)
 answer_view b line trip d holidays l = go (first_with trips_file (line ∷ trip ∷ []) 0 (records_of b trips_file)) refl
   where
-    go : (f : Found) → first_with trips_file (line ∷ trip ∷ []) 0 (records_of b trips_file) ≡ f
+    go : (f : Option ℕ) → first_with trips_file (line ∷ trip ∷ []) 0 (records_of b trips_file) ≡ f
         → plain_answer (records_of b codes_file) (records_of b lines_file) (records_of b trips_file) (records_of b time_codes_file) line trip d holidays
         ≡ pick (has_trip b line trip) (answered (bit (runs_on (view_of b line) trip holidays d) ∷ [])) (refused 13)
-    go (At p) e =
+    go (Some p) e =
         rw (
           answer_found (records_of b codes_file) (records_of b lines_file) (records_of b time_codes_file) (file_in b trips_file) line trip p d holidays l e,
           plain_runs_lem b line trip p l e holidays d,
           has_found trips_file (line ∷ trip ∷ []) 0 (records_of b trips_file) p e,
         )
-    go Nothing e =
+    go None e =
         let z = has_none trips_file (line ∷ trip ∷ []) 0 (records_of b trips_file) e in
         rw (answer_none (records_of b codes_file) (records_of b lines_file) (records_of b time_codes_file) (records_of b trips_file) line trip d holidays z, z)
 

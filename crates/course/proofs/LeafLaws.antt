@@ -74,15 +74,9 @@ maybe_number t e =
     let d = digits_are 1 9 t (given_digits 1 9 t e g) in
     (d.digits, omega (arith, d.most)))
 
-none_of_two : (a b : ℕ) → eqb (a + b) 0 ≡ both (eqb a 0) (eqb b 0)
-none_of_two a b =
-    either (eqb a 0)
-    (λ p. let y = eqb-true a 0 p in let z : a + b ≡ b = omega arith in rw (p, z))
-    (λ p. let y = eqb-false a 0 p in rw (p, ne_eqb (a + b) 0 (λ z. y (omega arith))))
-
-pub visit_is : (r : Fields) {a d k : Text} {comes goes stands : Bool} {early late far : ℕ}
+pub visit_is : (r : Fields) {a d k : Text} {comes goes stands none some : Bool} {early late far : ℕ}
     → arrival r ≡ a → departure r ≡ d → kilometres r ≡ k
-    → comes ≡ is_time a → early ≡ minute_or a → goes ≡ is_time d → late ≡ minute_or d → stands ≡ passes_in a d → far ≡ value k
+    → comes ≡ is_time a → early ≡ minute_or a → goes ≡ is_time d → late ≡ minute_or d → stands ≡ passes_in a d → none ≡ both (is_empty a) (is_empty d) → some ≡ given k → far ≡ value k
     → ◌≡◌ {A = Visit}
     (record {
       arrives = comes;
@@ -90,10 +84,10 @@ pub visit_is : (r : Fields) {a d k : Text} {comes goes stands : Bool} {early lat
       departs = goes;
       departure = late;
       passes = stands;
-      blank = eqb (length a + length d) 0;
-      measured = given k;
+      blank = none;
+      measured = some;
       kilometre = far;
     })
     (visit_of r)
 unfolding visit_of arrives departs blank
-visit_is r {a} {d} e f g p q s u v w = rw (e, f, g, p, q, s, u, v, w, none_of_two (length a) (length d))
+visit_is r e f g p q s u v n o w = rw (e, f, g, p, q, s, u, v, n, o, w)

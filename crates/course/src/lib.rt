@@ -12,7 +12,7 @@ ghost use Rattle.course.specs.Course.{minute_or, visit_of};
 
 use field::{minute_of, value_of};
 use track::Visit;
-use walk::part;
+use walk::{CutRecord, part};
 
 // Whether a time field holds a time: no other text of its kind has four bytes.
 fn is_timed(t: &[u8]) -> bool
@@ -27,28 +27,25 @@ fn minute_or(t: &[u8]) -> u64
     requires { admits Kind.Time t.now ≡ true }
     ensures { (result ≡ minute_or t.now) × (result < 1440) }
 {
-    if is_timed(t) {
-        return minute_of(t);
-    }
-    0
+    if is_timed(t) { minute_of(t) } else { 0 }
 }
 
 // inner: what the record says
-pub fn visit_of(s: &[u8], places: &[usize; 14]) -> Visit
-    requires { Kinded trip_stops_file s.now places.now }
-    ensures { result ≡ visit_of (texts trip_stops_file s.now places.now) }
+pub fn visit_of(row: CutRecord) -> Visit
+    requires { Kinded trip_stops_file row.bytes.now row.places.now }
+    ensures { result ≡ visit_of (texts trip_stops_file row.entry.bytes.now row.entry.places.now) }
 {
-    let a = part(s, places, 8);
-    let d = part(s, places, 9);
-    let k = part(s, places, 7);
+    let a = part(row, 8);
+    let d = part(row, 9);
+    let k = part(row, 7);
     Visit {
         arrives: is_timed(a),
         arrival: minute_or(a),
         departs: is_timed(d),
         departure: minute_or(d),
         passes: stands_in(a, d),
-        blank: a.len() + d.len() == 0,
-        measured: k.len() != 0,
+        blank: a.is_empty() && d.is_empty(),
+        measured: !k.is_empty(),
         kilometre: value_of(k),
     }
 }
@@ -58,8 +55,5 @@ fn stands_in(a: &[u8], d: &[u8]) -> bool
     requires { (admits Kind.Time a.now ≡ true) × (admits Kind.Time d.now ≡ true) }
     ensures { result ≡ passes_in a.now d.now }
 {
-    if a.len() == 1 {
-        return true;
-    }
-    d.len() == 1
+    a.len() == 1 || d.len() == 1
 }

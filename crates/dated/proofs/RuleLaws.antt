@@ -1,13 +1,11 @@
--- Laws of the rules on dates and marks: what a call says that was tried, a date that is given, a mark of two digits.
-use mathlib.Core.Path.{◌≡◌, refl, sym, ◌∙◌}
+-- Laws of the rules on dates and marks: what a call says that was tried, a date that is given.
+use mathlib.Core.Path.{◌≡◌, sym, ◌∙◌}
 use mathlib.Core.Bool.{Bool, true, false, not}
 use lib.ListN.{length}
 use borrow.Author.Tests.{ne_eqb, not-true, not-false}
-use Rattle.laws.specs.Tests.{both, never, both_false}
-use Rattle.dates.specs.Dates.{within}
 use Rattle.file.specs.Format.{Text}
-use Rattle.field.specs.Values.{is_digits, value, is_date_text}
-use Rattle.field.specs.Rules.{in_order, closes, is_time_mark}
+use Rattle.field.specs.Values.{is_date_text}
+use Rattle.field.specs.Rules.{in_order, closes}
 use Rattle.dated.specs.Dates.{DateOrNone}
 
 -- what a call that was tried with `!` says of its definition
@@ -25,17 +23,3 @@ is_given t d h = rw (ne_eqb (length t) 0 h) at d
 pub order_given : (from to : Text) → (length from ≡ 0 → ⊥) → closes from to ≡ in_order from to
 unfolding closes in_order
 order_given from to h = rw (ne_eqb (length from) 0 h)
-
--- a mark of two digits
-module _ (t : Text) where
-  pub mark_unless : is_digits 2 2 t ≡ false → is_time_mark t ≡ false
-  unfolding is_time_mark
-  mark_unless e = both_false (is_digits 2 2 t) (within 10 (value t) 79) e
-
-  pub mark_when : is_digits 2 2 t ≡ true → is_time_mark t ≡ within 10 (value t) 79
-  unfolding is_time_mark
-  mark_when e = go (is_digits 2 2 t) e
-    where
-      go : (b : Bool) → b ≡ true → both b (within 10 (value t) 79) ≡ within 10 (value t) 79
-      go true h = refl
-      go false h = never h

@@ -1,4 +1,4 @@
-// Document 01's rules inside one record that are on dates and on the marks of time codes, asked of texts. All of it is inner: what each function means is
+// The rules inside one record that are on dates and on the marks of time codes, asked of texts. All of it is inner: what each function means is
 // its definition in the crate field, specs/Rules.antt.
 #![tactic(auto)]
 
@@ -31,13 +31,7 @@ pub fn closes_in_order(from: &[u8], to: &[u8]) -> bool
     requires { DateOrNone from.now × DateOrNone to.now }
     ensures { result ≡ closes from.now to.now }
 {
-    if to.len() == 0 {
-        return true;
-    }
-    if from.len() == 0 {
-        return false;
-    }
-    rank_of(from) <= rank_of(to)
+    to.is_empty() || !from.is_empty() && rank_of(from) <= rank_of(to)
 }
 
 // inner: the from-date isn't after the to-date, where both are given
@@ -45,97 +39,61 @@ pub fn in_order(from: &[u8], to: &[u8]) -> bool
     requires { DateOrNone from.now × DateOrNone to.now }
     ensures { result ≡ in_order from.now to.now }
 {
-    if from.len() == 0 {
-        return true;
-    }
-    closes_in_order(from, to)
+    from.is_empty() || closes_in_order(from, to)
 }
 
 // Two digits 10-79.
 fn is_time_mark(t: &[u8]) -> bool
     ensures { result ≡ is_time_mark t.now }
 {
-    if !is_digits(t, 2, 2) {
-        return false;
-    }
-    let v = value_of(t);
-    if v < 10 {
-        return false;
-    }
-    v <= 79
+    is_digits(t, 2, 2) && matches!(value_of(t), 10..=79)
 }
 
 // inner: with a type the mark is two digits, without one it is a note's
 pub fn mark_fits(kind: &[u8], mark: &[u8]) -> bool
     ensures { result ≡ pick (given kind.now) (is_time_mark mark.now) (is_note_mark mark.now) }
 {
-    if kind.len() == 0 {
-        return is_one_of(mark, b"OmM[p");
+    if kind.is_empty() {
+        is_one_of(mark, b"OmM[p")
+    } else {
+        is_time_mark(mark)
     }
-    is_time_mark(mark)
 }
 
 // Types 1 and 4 need a from-date.
 fn opens(kind: &[u8], from: &[u8]) -> bool
     ensures { result ≡ asks (among (49 ∷ 52 ∷ []) kind.now) (given from.now) }
 {
-    if is_one_of(kind, b"14") {
-        return from.len() != 0;
-    }
-    true
+    !is_one_of(kind, b"14") || !from.is_empty()
 }
 
 // Types 2 and 3 need it and no to-date.
 fn is_one_day(kind: &[u8], from: &[u8], to: &[u8]) -> bool
     ensures { result ≡ asks (among (50 ∷ 51 ∷ []) kind.now) (both (given from.now) (is_empty to.now)) }
 {
-    if is_one_of(kind, b"23") {
-        if from.len() == 0 {
-            return false;
-        }
-        return to.len() == 0;
-    }
-    true
+    !is_one_of(kind, b"23") || !from.is_empty() && to.is_empty()
 }
 
 // Types 5 and 6 have neither.
 fn has_no_dates(kind: &[u8], from: &[u8], to: &[u8]) -> bool
     ensures { result ≡ asks (among (53 ∷ 54 ∷ []) kind.now) (both (is_empty from.now) (is_empty to.now)) }
 {
-    if is_one_of(kind, b"56") {
-        if from.len() != 0 {
-            return false;
-        }
-        return to.len() == 0;
-    }
-    true
+    !is_one_of(kind, b"56") || from.is_empty() && to.is_empty()
 }
 
 // Types 7 and 8 have both.
 fn has_both_dates(kind: &[u8], from: &[u8], to: &[u8]) -> bool
     ensures { result ≡ asks (among (55 ∷ 56 ∷ []) kind.now) (both (given from.now) (given to.now)) }
 {
-    if is_one_of(kind, b"78") {
-        if from.len() == 0 {
-            return false;
-        }
-        return to.len() != 0;
-    }
-    true
+    !is_one_of(kind, b"78") || !from.is_empty() && !to.is_empty()
 }
 
 // inner: the dates that each type of a time code asks for
 pub fn dates_fit(kind: &[u8], from: &[u8], to: &[u8]) -> bool
     ensures { result ≡ dates_rule kind.now from.now to.now }
 {
-    if !opens(kind, from) {
-        return false;
-    }
-    if !is_one_day(kind, from, to) {
-        return false;
-    }
-    if !has_no_dates(kind, from, to) {
-        return false;
-    }
-    has_both_dates(kind, from, to)
+    opens(kind, from)
+        && is_one_day(kind, from, to)
+        && has_no_dates(kind, from, to)
+        && has_both_dates(kind, from, to)
 }

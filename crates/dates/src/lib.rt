@@ -1,4 +1,4 @@
-// Dates and day numbers, by counting years and months one by one (document 01, "Days"). All of it is inner: what each function
+// Dates and day numbers, by counting years and months one by one. All of it is inner: what each function
 // means is its definition in specs/Dates.antt, and callers see no more than that.
 #![tactic(auto)]
 
@@ -9,19 +9,15 @@ ghost use Rattle.dates.specs.Dates.{leap, year_days, month_days, is_date, years_
 const DAYS: [u64; 13] = [0, 31, 28, 31, 30, 31, 30, 31, 31, 30, 31, 30, 31];
 
 // Whether it is a leap year.
+#[tactic(auto, unfolding(crate::specs::Dates::leap))]
 fn leap_year(year: u64) -> bool
     ensures { result ≡ leap year }
 {
-    if year % 400 == 0 {
-        return true;
-    }
-    if year % 100 == 0 {
-        return false;
-    }
-    year % 4 == 0
+    year % 400 == 0 || year % 100 != 0 && year % 4 == 0
 }
 
 // inner
+#[tactic(auto, unfolding(crate::specs::Dates::year_days))]
 pub fn year_days(year: u64) -> u64
     ensures { result ≡ year_days year }
 {
@@ -32,35 +28,26 @@ pub fn year_days(year: u64) -> u64
 fn month_days(year: u64, month: u64) -> u64
     ensures { result ≡ month_days year month }
 {
-    if month == 2 {
-        if leap_year(year) {
-            return 29;
-        }
-        return 28;
+    if month == 2 && leap_year(year) {
+        29
+    } else if month < 13 {
+        DAYS[month as usize]
+    } else {
+        0
     }
-    if month < 13 { DAYS[month as usize] } else { 0 }
 }
 
 // inner: a real date of 1900-2099
+#[tactic(auto, unfolding(crate::specs::Dates::is_date))]
 pub fn is_date(day: u64, month: u64, year: u64) -> bool
     ensures { result ≡ is_date day month year }
 {
-    if year < 1900 {
-        return false;
-    }
-    if year > 2099 {
-        return false;
-    }
-    if month < 1 {
-        return false;
-    }
-    if month > 12 {
-        return false;
-    }
-    if day < 1 {
-        return false;
-    }
-    day <= month_days(year, month)
+    1900 <= year
+        && year <= 2099
+        && 1 <= month
+        && month <= 12
+        && 1 <= day
+        && day <= month_days(year, month)
 }
 
 // inner: a day of 1900-2099
@@ -71,34 +58,33 @@ pub fn is_day(number: u64) -> bool
 }
 
 // inner: the days of the first k years from 1900 on
+#[tactic(auto, using(crate::proofs::Real::years_step, crate::proofs::Real::year_most), unfolding(crate::specs::Dates::years_days))]
 pub fn years_days(k: u64) -> u64
     requires { k ≤ 200 }
     ensures { result ≡ years_days k }
 {
     let mut days: u64 = 0;
-    let mut i: u64 = 0;
-    while i < k {
+    for i in 0..k {
         days += year_days(1900 + i);
-        i += 1;
     }
     days
 }
 
 // inner: the days of the first k months of a year
+#[tactic(auto, using(crate::proofs::Real::months_step, crate::proofs::Real::month_most), unfolding(crate::specs::Dates::months_days))]
 pub fn months_days(year: u64, k: u64) -> u64
     requires { k ≤ 12 }
     ensures { result ≡ months_days year k }
 {
     let mut days: u64 = 0;
-    let mut i: u64 = 0;
-    while i < k {
+    for i in 0..k {
         days += month_days(year, i + 1);
-        i += 1;
     }
     days
 }
 
 // inner: the number of a real date
+#[tactic(auto, using(crate::proofs::Real::real, crate::proofs::Real::number_day), unfolding(crate::specs::Dates::day_number))]
 pub fn day_number(day: u64, month: u64, year: u64) -> u64
     requires { is_date day month year ≡ true }
     ensures { result ≡ day_number day month year }
@@ -107,23 +93,23 @@ pub fn day_number(day: u64, month: u64, year: u64) -> u64
 }
 
 // inner: the year of a day
+#[tactic(auto, using(crate::proofs::Real::years_step, crate::proofs::Real::year_most, crate::proofs::Real::year_top), unfolding(crate::specs::Dates::years_days))]
 pub fn year_of(number: u64) -> u64
     ensures { result ≡ year_of number }
 {
     let mut begun: u64 = 0;
-    let mut k: u64 = 0;
-    while k < 199 {
+    for k in 0..199 {
         let next = begun + year_days(1900 + k);
         if number < next {
             return 1900 + k;
         }
         begun = next;
-        k += 1;
     }
-    1900 + k
+    2099
 }
 
 // inner: how many days of its year lie before a day
+#[tactic(auto, using(crate::proofs::Real::year_found, crate::proofs::Real::new_year_found, crate::proofs::Real::new_year_passed))]
 pub fn since_new_year(number: u64) -> u64
     ensures { result ≡ number - new_year number }
 {
@@ -132,18 +118,17 @@ pub fn since_new_year(number: u64) -> u64
 }
 
 // inner: the month of a year in which a day lies that has `left` days of the year before it
+#[tactic(auto, using(crate::proofs::Real::months_step, crate::proofs::Real::month_most), unfolding(crate::specs::Dates::months_days))]
 pub fn month_in(year: u64, left: u64) -> u64
     ensures { result ≡ 1 + last_begun (months_days year) 11 left }
 {
     let mut begun: u64 = 0;
-    let mut k: u64 = 0;
-    while k < 11 {
+    for k in 0..11 {
         let next = begun + month_days(year, k + 1);
         if left < next {
             return 1 + k;
         }
         begun = next;
-        k += 1;
     }
-    1 + k
+    12
 }

@@ -1,10 +1,8 @@
-// What C is handed of the calendar's calls on dates and weekdays (document 01, "Days"). Each result's `number` is 0 for an answer and 12 for a refusal, and the
+// What C is handed of the calendar's calls on dates and weekdays. Each result's `number` is 0 for an answer and 12 for a refusal, and the
 // other fields are then the answer's values, or 0 with a refusal.
 #![tactic(auto)]
 
 ghost use Rattle.dayresults.specs.Results.{DayGives, DateGives, WeekdayGives};
-
-use calendar::{Date, Day, DayOfWeek};
 
 #[repr(C)]
 #[derive(Clone, Copy)]
@@ -34,8 +32,8 @@ pub fn day(day: u64, month: u64, year: u64) -> DayResult
     ensures { DayGives day month year result }
 {
     match calendar::day_of(day, month, year) {
-        Day::At(n) => DayResult { number: 0, day: n },
-        Day::NotReal => DayResult { number: 12, day: 0 },
+        Some(n) => DayResult { number: 0, day: n },
+        None => DayResult { number: 12, day: 0 },
     }
 }
 
@@ -44,13 +42,13 @@ pub fn date(number: u64) -> DateResult
     ensures { DateGives number result }
 {
     match calendar::date_of(number) {
-        Date::On(d, m, y) => DateResult {
+        Some(d) => DateResult {
             number: 0,
-            day: d,
-            month: m,
-            year: y,
+            day: d.day,
+            month: d.month,
+            year: d.year,
         },
-        Date::NoDate => DateResult {
+        None => DateResult {
             number: 12,
             day: 0,
             month: 0,
@@ -64,11 +62,11 @@ pub fn weekday(number: u64) -> WeekdayResult
     ensures { WeekdayGives number result }
 {
     match calendar::weekday_of(number) {
-        DayOfWeek::Is(w) => WeekdayResult {
+        Some(w) => WeekdayResult {
             number: 0,
             weekday: w,
         },
-        DayOfWeek::NoWeekday => WeekdayResult {
+        None => WeekdayResult {
             number: 12,
             weekday: 0,
         },

@@ -6,25 +6,17 @@ ghost use Rattle.std.specs.Prelude.{◌≡◌, [], ◌∷◌, ◌+◌, ◌≤◌
 ghost use Rattle.laws.specs.Splice.{splice};
 ghost use Rattle.decimal.specs.Digits.{digits_of};
 
-// One byte at a place.
-fn put(d: &mut [u8], at: usize, b: u8)
-    requires { at < length d.old }
-    ensures { d.new ≡ splice d.old at (b ∷ []) }
-{
-    d[at] = b;
-}
-
 // inner: lays the digits of n over d from `at` on, and answers the place after them
 pub fn number(d: &mut [u8], at: usize, n: u64) -> usize
     requires { at + length (digits_of n) ≤ length d.old }
     ensures { (d.new ≡ splice d.old at (digits_of n)) × (result ≡ at + length (digits_of n)) }
 {
     if n < 10 {
-        put(d, at, 48 + n as u8);
+        d[at] = b'0' + n as u8;
         at + 1
     } else {
         let p = number(d, at, n / 10);
-        put(d, p, 48 + (n % 10) as u8);
+        d[p] = b'0' + (n % 10) as u8;
         p + 1
     }
 }

@@ -1,12 +1,12 @@
 -- One row for each public call: any two results that its promise allows are equal. A row is stated on the predicate that the call's contract cites.
 -- `determined` (proofs/Rows.antt): all rows hold, by one law.
-use Rattle.std.specs.Prelude.{ℕ, List}
+use Rattle.std.specs.Prelude.{ℕ, List, Result}
 use Rattle.laws.specs.Settled.{Settled}
 use Rattle.calendar.specs.Answers.{DayIs, DateIs, WeekdayIs, WeekIs, HolidayIs, FitsIs}
 use Rattle.file.specs.Answers.{RecordsIs, StretchIs, PartIs}
 use Rattle.file.specs.Format.{Text}
 use Rattle.file.specs.Writing.{WriteIs}
-use Rattle.file.specs.declared.Written.{Written}
+use Rattle.file.specs.declared.Refusal.{Refusal}
 use Rattle.thirteen.specs.Batch.{Batch}
 use Rattle.fields.specs.Check.{CheckedIs}
 use Rattle.batch.specs.Verdicts.{VerdictIs}
@@ -40,7 +40,7 @@ pub record Determined : Type 0 where
   pub stretch_settled : (file : ℕ) (s : List ℕ) (r f : ℕ) → Settled (StretchIs file s r f)
   pub stretch_part : (file : ℕ) (s : List ℕ) (r f : ℕ) → Settled (PartIs file s r f)
   -- the writer: its answer, and what the lent buffer holds afterwards
-  pub write : (file f : ℕ) (t : Text) (d : List ℕ) (place : ℕ) → Settled (λ (r : Written × List ℕ). WriteIs file f t d place r.0 r.1)
+  pub write : (file f : ℕ) (t : Text) (d : List ℕ) (place : ℕ) → Settled (λ (r : Result ℕ Refusal × List ℕ). WriteIs file f t d place r.0 r.1)
   -- the checks of one file and of a batch
   pub check_fields : (file : ℕ) (s : List ℕ) → Settled (CheckedIs file s)
   pub check : (b : Batch) → Settled (VerdictIs b)

@@ -1,5 +1,6 @@
 -- A step from one of a trip's records to the one beside it in key order: where keys rise the line behind it or before it, in an index whose keys
 -- are all different the neighbouring entry.
+use Rattle.std.specs.Prelude.{None, Some}
 use mathlib.Core.Path.{◌≡◌, refl, sym, ap, subst, ◌∙◌}
 use mathlib.Core.Bool.{true}
 use mathlib.Core.List.{List, [], ◌∷◌, ◌++◌}
@@ -12,7 +13,6 @@ use Rattle.laws.specs.Tests.{either, clash}
 use Rattle.file.specs.Files.{fields_of}
 use Rattle.file.specs.Format.{Fields, written_record, written}
 use Rattle.file.specs.Records.{records_in}
-use Rattle.walk.specs.declared.Found.TheVariants.{At, Nothing}
 use Rattle.lines.specs.Lines.{behind}
 use Rattle.lines.specs.Order.{first_ranked, first_from, Above, Rising}
 use Rattle.lines.proofs.LineLaws.{size_cons, next_line, next_at}
@@ -37,7 +37,7 @@ use Rattle.previous.proofs.PreviousLaws.{Trails, previous_nothing, previous_foun
 
 -- a record with a rank: the first that has it is no later
 first_by : (file x at : ℕ) (a : List Fields) (r : Fields) (rs : List Fields) → rank_of file r ≡ x
-    → (p : ℕ) × (first_ranked (rank_of file) x at (a ++ r ∷ rs) ≡ At p) × (p ≤ at + length (written a))
+    → (p : ℕ) × (first_ranked (rank_of file) x at (a ++ r ∷ rs) ≡ Some p) × (p ≤ at + length (written a))
 unfolding first_ranked written
 first_by file x at [] r rs e = (at, rw (eq-eqb (rank_of file r) x e), omega arith)
 first_by file x at (q ∷ a) r rs e =
@@ -59,7 +59,7 @@ module _ (file line trip : ℕ) (s : List ℕ) (f : KeyFile file s) (count : len
   rank_here at m = trip_of_lem file line trip (record_at file s at) (three_fields file f.keyed count) m
 
   -- the record with the greatest rank below the trip's y, the first with its rank, is the last below y if it is the trip's; else there is none
-  trails_trip : (y q : ℕ) → y ≤ none → Trails file s (base + y) q → first_ranked (rank_of file) (rank_of file (record_at file s q)) 0 rs ≡ At q
+  trails_trip : (y q : ℕ) → y ≤ none → Trails file s (base + y) q → first_ranked (rank_of file) (rank_of file (record_at file s q)) 0 rs ≡ Some q
       → trip_at file line trip s q ≡ previous_of file line trip y rs
   unfolding trip_at number_at rank
   trails_trip y q c t hit =
@@ -73,7 +73,7 @@ module _ (file line trip : ℕ) (s : List ℕ) (f : KeyFile file s) (count : len
       let u = third_small file r (key_here file s q f t.place t.within).numbers in
       let w : z + 1 - 1 ≡ z = omega arith in
       let k = previous_found file line trip y rs (z + 1) v (λ e. omega arith) in
-      let g : first_with file (line ∷ trip ∷ z ∷ []) 0 rs ≡ At q =
+      let g : first_with file (line ∷ trip ∷ z ∷ []) 0 rs ≡ Some q =
       first_with_lem file (line ∷ trip ∷ z ∷ []) f.keyed (small_three line trip z a b u) (sym count) 0 rs f.keys
       ∙ ap (λ (i : ℕ). first_ranked (rank_of file) i 0 rs) (sym (rank_here q o)) ∙ hit in
       rw (l, o) (sym (rw w at k ∙ g)))
@@ -130,7 +130,7 @@ module _ (file line trip : ℕ) (s : List ℕ) (f : KeyFile file s) (count : len
         let u = third_small file (record_at file s at) (key_here file s at f p h).numbers in
         trails_trip y q (omega arith) t (hit_anywhere (fields_of file) (rank_of file) s q (rank_of file (record_at file s q)) up t.place t.within refl)
 
-    pub line_first : at ≡ 0 → Nothing ≡ previous_of file line trip y rs
+    pub line_first : at ≡ 0 → None ≡ previous_of file line trip y rs
     line_first z =
         previous_nothing file line trip y rs 0 (number_none file line trip y s f count (rising_first file (base + y) s at f up found_here z)) refl
 
@@ -140,12 +140,12 @@ module _ (file line trip : ℕ) (s : List ℕ) (f : KeyFile file s) (count : len
     pub entry_next : (x i : ℕ) → Lower file s order (base + x) i → i < length order → trip_at file line trip s (get_or order i 0) ≡ next_of file line trip x rs
     entry_next x i l h = leads_next file line trip x s (get_or order i 0) f count a b (index_leads file s order (base + x) i f index l h)
 
-    pub entry_none : (x i : ℕ) → Lower file s order (base + x) i → length order ≤ i → Nothing ≡ next_of file line trip x rs
+    pub entry_none : (x i : ℕ) → Lower file s order (base + x) i → length order ≤ i → None ≡ next_of file line trip x rs
     entry_none x i l h =
         sym (trip_end file line trip s (length s) (omega arith))
         ∙ leads_next file line trip x s (length s) f count a b (index_leads_none file s order (base + x) i f index l h)
 
-    pub entry_first : (x i : ℕ) → Lower file s order (base + x) i → i ≡ 0 → Nothing ≡ previous_of file line trip x rs
+    pub entry_first : (x i : ℕ) → Lower file s order (base + x) i → i ≡ 0 → None ≡ previous_of file line trip x rs
     entry_first x i l z =
         previous_nothing file line trip x rs 0 (number_none file line trip x s f count (index_first file s order (base + x) i f index l z)) refl
 

@@ -15,7 +15,6 @@ ghost use Rattle.trail.specs.Trail.{step_of, place_of, begin, after};
 use following::if_of_trip;
 use keys::{Key, key_at};
 use seek::lower;
-use walk::Found;
 
 // Where a walk stands, and the entry of the index that names the place: a hint for the next step, and any number where there is no index.
 #[derive(Clone, Copy)]
@@ -25,13 +24,10 @@ pub struct Step {
 }
 
 // inner: the place of a record, or the end of the file
-pub fn place_of(s: &[u8], found: Found) -> usize
+pub fn place_of(s: &[u8], found: Option<usize>) -> usize
     ensures { result ≡ place_of s.now found }
 {
-    match found {
-        Found::At(at) => at,
-        Found::Nothing => s.len(),
-    }
+    found.unwrap_or(s.len())
 }
 
 // By an index: the record of entry i, if it is the trip's. Where i is the first entry from the trip's x on, that is the next record from x on.
@@ -84,9 +80,10 @@ pub fn next_entry(
     ensures { result.at ≡ place_of s.now (step_of file up line trip (after up (third file (record_at file s.now (get_or part.now entry 0)))) (records_in (fields_of file) s.now)) }
 {
     if up {
-        return entry_from(file, s, part, entry + 1, line, trip);
+        entry_from(file, s, part, entry + 1, line, trip)
+    } else {
+        entry_below(file, s, part, entry, line, trip)
     }
-    entry_below(file, s, part, entry, line, trip)
 }
 
 // inner: the entry where a walk begins; `near` is the entry to look at first, any number
@@ -104,21 +101,19 @@ pub fn first_entry(
 {
     let hi = line * 1000000000 + trip;
     if up {
-        let i = lower(file, s, part, Key { hi: hi, lo: 0 }, near);
-        return entry_from(file, s, part, i, line, trip);
+        let i = lower(file, s, part, Key { hi, lo: 0 }, near);
+        entry_from(file, s, part, i, line, trip)
+    } else {
+        let i = lower(file, s, part, Key { hi: hi + 1, lo: 0 }, near);
+        entry_below(file, s, part, i, line, trip)
     }
-    let i = lower(file, s, part, Key { hi: hi + 1, lo: 0 }, near);
-    entry_below(file, s, part, i, line, trip)
 }
 
 // inner: whether an entry of a list names this place
 pub fn names(part: &[u32], entry: usize, at: usize) -> bool
     ensures { result ≡ true → (entry < length part.now) × (get_or part.now entry 0 ≡ at) }
 {
-    if entry >= part.len() {
-        return false;
-    }
-    part[entry] as usize == at
+    entry < part.len() && part[entry] as usize == at
 }
 
 // inner: the entry that names a record's place: the one that is hinted at, or else it is looked for
@@ -128,7 +123,7 @@ pub fn entry_of(file: u64, s: &[u8], part: &[u32], at: usize, entry: usize) -> u
     if names(part, entry, at) {
         return entry;
     }
-    if part.len() == 0 {
+    if part.is_empty() {
         return 0;
     }
     lower(file, s, part, key_at(file, s, at), entry)

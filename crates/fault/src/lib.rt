@@ -35,8 +35,5 @@ pub enum Fault {
 pub fn is_none(f: Fault) -> bool
     ensures { result ≡ eqb (numbered_fault f).number 0 }
 {
-    match f {
-        Fault::None => true,
-        _ => false,
-    }
+    matches!(f, Fault::None)
 }

@@ -3,6 +3,7 @@
 use mathlib.Core.Path.{◌≡◌, refl, sym, ap, subst, ◌∙◌}
 use mathlib.Core.Bool.{Bool, true, false}
 use mathlib.Core.List.{List, [], ◌∷◌, ◌++◌, append_assoc}
+use mathlib.Core.Logic.{◌⊎◌, inl, inr}
 use Prim.Native.Nat.{ℕ, ◌+◌, ◌-◌, ◌≤◌, ◌<◌}
 use native.Mathlib.Omega.{arith}
 use lib.Dec.{eqb, ltb}
@@ -13,7 +14,6 @@ use Rattle.laws.specs.Numbered.{Numbered, answered, refused_in}
 use Rattle.file.specs.Files.{field_counts, fields_of}
 use Rattle.file.specs.Format.{Fields, written}
 use Rattle.file.specs.Records.{records_in}
-use Rattle.file.specs.Reader.{Classes}
 use Rattle.walk.specs.Walk.{LegalFrom, RecordAt, Cuts}
 use Rattle.walk.proofs.WalkLaws.{cut_first, none_left}
 use Rattle.rules.specs.Texts.{texts}
@@ -80,11 +80,9 @@ module _ (file : ℕ) (s : List ℕ) (at : ℕ) (order ways : List ℕ) (q : Use
     used_apart : apart (how_of ways file) ≡ true → Used file s at false
     used_apart e p = sym (key_used file p.past (record_at file s at) (q.low, h) ∙ way_here.once e at p q.more)
 
-    pub used_rising : how_of ways file ≡ 1 → Used file s at false
-    used_rising e = used_apart (rw e)
-
-    pub used_index : how_of ways file ≡ 2 → Used file s at false
-    used_index e = used_apart (rw e)
+    pub used_known : (how_of ways file ≡ 1) ⊎ ((how_of ways file ≡ 1 → ⊥) × (how_of ways file ≡ 2)) → Used file s at false
+    used_known (inl e) = used_apart (rw e)
+    used_known (inr w) = used_apart (rw w.1)
 
     -- else it is looked for, by the index if there is one
     pub serves_part : (part : List ℕ) → part ≡ part_of order (from_of ways file) (to_of ways file) → Serves file s false part
@@ -126,8 +124,8 @@ module _ (b : Batch) (file : ℕ) (s : List ℕ) (at k : ℕ) (l : Left b file s
   left_record n e = rw e (record { legal = l.place.legal; more = h; room = fields_few file })
 
   -- and it can be asked whether its key is used
-  pub left_asked : (order ways last class : List ℕ) → 2 ≤ file → s ≡ file_in b file → Known b file order ways last class → UsedAsked file s at order ways
-  left_asked order ways last class low e q =
+  pub left_asked : (order ways last : List ℕ) → 2 ≤ file → s ≡ file_in b file → Known b file order ways last → UsedAsked file s at order ways
+  left_asked order ways last low e q =
       record {
         low = low;
         size = q.looks.size;
@@ -154,9 +152,9 @@ module _ (b : Batch) (file : ℕ) (s : List ℕ) (at k n : ℕ) (old places : Li
   whole = l.place.whole ∙ ap (λ (x : List Fields). l.place.past ++ x) c.rest
 
   -- what is known of it then: its fields are of their kinds
-  pub left_known : (order ways last class new : List ℕ) → 2 ≤ file → file ≤ 13 → s ≡ file_in b file → Known b file order ways last class → Lasts b new
-      → Record b file s places order ways new class
-  left_known order ways last class new low high e q m =
+  pub left_known : (order ways last new : List ℕ) → 2 ≤ file → file ≤ 13 → s ≡ file_in b file → Known b file order ways last → Lasts b new
+      → Record b file s places order ways new
+  left_known order ways last new low high e q m =
       let a : OfKind file s = rw e (sound_kinds b file (q.sound file low high)) in
       record { known = later q new m; kinded = cut_kinded file s at a l.place (omega (arith, c.far, c.near)) c }
 
@@ -242,10 +240,10 @@ module _ (b : Batch) (file : ℕ) (o : Onward b file) (h : file < 14) (a : Numbe
       }
 
 -- what is known then of a record of this file
-pub onward_known : (b : Batch) (file : ℕ) (order ways last class new : List ℕ) → Onward b file → SoundFiles b → Looks b order ways last → Classes class → Lasts b new
-    → Known b file order ways new class
-onward_known b file order ways last class new o f k t l =
-    record { sound = f; looks = record { size = k.size; routes = k.routes; lasts = l }; table = t; stops = λ e. stops_met b (o.stops (omega arith)) }
+pub onward_known : (b : Batch) (file : ℕ) (order ways last new : List ℕ) → Onward b file → SoundFiles b → Looks b order ways last → Lasts b new
+    → Known b file order ways new
+onward_known b file order ways last new o f k l =
+    record { sound = f; looks = record { size = k.size; routes = k.routes; lasts = l }; stops = λ e. stops_met b (o.stops (omega arith)) }
 
 -- Before any search, the place that is remembered for each file is its start.
 pub lasts_start : (b : Batch) → SoundFiles b → Lasts b (replicate 22 0)

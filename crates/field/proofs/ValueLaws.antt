@@ -2,7 +2,7 @@
 -- what n digits are worth: less than 10 to the n.
 use mathlib.Core.Path.{◌≡◌, refl}
 use mathlib.Core.Bool.{Bool, true, false}
-use mathlib.Core.List.{List, [], ◌∷◌}
+use mathlib.Core.List.{[], ◌∷◌}
 use Prim.Native.Nat.{ℕ, zero, suc, ◌+◌, ◌-◌, ◌*◌, ◌^◌, ◌≤◌, ◌<◌}
 use native.Mathlib.Nat.{pow-le-pow_right, pow-suc, add-zero, zero-add}
 use native.Mathlib.Numerals.{add-one}
@@ -11,10 +11,12 @@ use lib.Dec.{eqb, leb}
 use lib.ListN.{length, get_or, take, drop, drop_of_length-le}
 use lib.Seq.{drop-cons}
 use borrow.Author.Tests.{leb-true, le-leb, lt-leb}
-use Rattle.laws.specs.Tests.{both, never, both_left, both_right, both_false}
+use Rattle.std.specs.Prelude.{◌&&◌}
+use Rattle.std.specs.List.{list_all}
+use Rattle.laws.specs.Tests.{both, both_left, both_right}
 use Rattle.dates.specs.Dates.{is_date}
 use Rattle.file.specs.Format.{Text}
-use Rattle.field.specs.Values.{is_byte, among, is_digit, all_digits, is_digits, value_from, value, is_date_text, day_part, month_part, year_part, is_time, hour_part, minute_part, minute_of}
+use Rattle.field.specs.Values.{is_byte, is_digit, all_digits, is_digits, value_from, value, is_date_text, day_part, month_part, year_part, is_time, hour_part, minute_part, minute_of}
 
 -- a text of one byte is that byte, and no other text is
 pub byte_other : (t : Text) (b : ℕ) → (length t ≡ 1 → ⊥) → is_byte b t ≡ false
@@ -28,20 +30,6 @@ unfolding is_byte
 byte_one [] b h = absurd (omega arith)
 byte_one (x ∷ []) b h = refl
 byte_one (x ∷ y ∷ t) b h = absurd (omega arith)
-
--- the set from i on
-module _ (set : List ℕ) (t : Text) (i : ℕ) (h : i < length set) where
-  pub among_hit : is_byte (get_or set i 0) t ≡ true → among (drop i set) t ≡ true
-  unfolding among
-  among_hit e = rw (drop-cons set i 0, e)
-
-  pub among_miss : is_byte (get_or set i 0) t ≡ false → among (drop i set) t ≡ among (drop (i + 1) set) t
-  unfolding among
-  among_miss e = rw (add-one, drop-cons set i 0, e)
-
-pub among_none : (set : List ℕ) (t : Text) (i : ℕ) → length set ≤ i → among (drop i set) t ≡ false
-unfolding among
-among_none set t i h = rw (drop_of_length-le set h)
 
 -- a digit by its bounds
 pub digit_low : (b : ℕ) → b < 48 → is_digit b ≡ false
@@ -64,20 +52,18 @@ pub digit_bounds : (b : ℕ) → is_digit b ≡ true → (48 ≤ b) × (b ≤ 57
 unfolding is_digit
 digit_bounds b e = (leb-true _ _ (both_left (leb 48 b) (leb b 57) e), leb-true _ _ (both_right (leb 48 b) (leb b 57) e))
 
+-- the library's test of a whole list, with the definition's
+pub whole_digits : (t : Text) → list_all is_digit t ≡ all_digits t
+unfolding all_digits
+whole_digits [] = refl
+whole_digits (b ∷ t) = go (is_digit b) (whole_digits t)
+  where
+    go : (p : Bool) {r s : Bool} → r ≡ s → (p && r) ≡ both p s
+    go true e = e
+    go false e = refl
+
 -- digits from i on
 module _ (t : Text) (i : ℕ) (h : i < length t) where
-  pub digits_low : get_or t i 0 < 48 → all_digits (drop i t) ≡ false
-  unfolding all_digits
-  digits_low p = rw (drop-cons t i 0, digit_low (get_or t i 0) p)
-
-  pub digits_high : 57 < get_or t i 0 → all_digits (drop i t) ≡ false
-  unfolding all_digits
-  digits_high p = rw (drop-cons t i 0, digit_high (get_or t i 0) p)
-
-  pub digits_next : 48 ≤ get_or t i 0 → get_or t i 0 ≤ 57 → all_digits (drop i t) ≡ all_digits (drop (i + 1) t)
-  unfolding all_digits
-  digits_next p q = rw (add-one, drop-cons t i 0, digit_is (get_or t i 0) p q)
-
   pub first_digit : all_digits (drop i t) ≡ true → is_digit (get_or t i 0) ≡ true
   unfolding all_digits
   first_digit e = both_left (is_digit (get_or t i 0)) (all_digits (drop (suc i) t)) (rw (drop-cons t i 0 h) at e)
@@ -90,10 +76,6 @@ module _ (t : Text) (i : ℕ) (h : i < length t) where
   pub value_next : (v : ℕ) → value_from v (drop i t) ≡ value_from (v * 10 + (get_or t i 0 - 48)) (drop (i + 1) t)
   unfolding value_from
   value_next v = rw (add-one, drop-cons t i 0)
-
-pub digits_none : (t : Text) (i : ℕ) → length t ≤ i → all_digits (drop i t) ≡ true
-unfolding all_digits
-digits_none t i h = rw (drop_of_length-le t h)
 
 pub value_done : (t : Text) (i v : ℕ) → length t ≤ i → value_from v (drop i t) ≡ v
 unfolding value_from
@@ -154,18 +136,6 @@ digits_bound a b t e = let d = digits_are a b t e in omega (arith, value_bound t
 
 -- what a date says of its digits and of its parts
 module _ (t : Text) where
-  pub date_unless : is_digits 8 8 t ≡ false → is_date_text t ≡ false
-  unfolding is_date_text
-  date_unless e = both_false (is_digits 8 8 t) (is_date (day_part t) (month_part t) (year_part t)) e
-
-  pub date_when : is_digits 8 8 t ≡ true → is_date_text t ≡ is_date (day_part t) (month_part t) (year_part t)
-  unfolding is_date_text
-  date_when e = go (is_digits 8 8 t) e
-    where
-      go : (b : Bool) → b ≡ true → both b (is_date (day_part t) (month_part t) (year_part t)) ≡ is_date (day_part t) (month_part t) (year_part t)
-      go true h = refl
-      go false h = never h
-
   pub date_digits : is_date_text t ≡ true → Digits 8 8 t
   unfolding is_date_text
   date_digits e = digits_are 8 8 t (both_left (is_digits 8 8 t) (is_date (day_part t) (month_part t) (year_part t)) e)
@@ -178,18 +148,6 @@ module _ (t : Text) where
 module _ (t : Text) where
   abbrev in_day : Bool
   in_day = both (leb (hour_part t) 23) (leb (minute_part t) 59)
-
-  pub time_unless : is_digits 4 4 t ≡ false → is_time t ≡ false
-  unfolding is_time
-  time_unless e = both_false (is_digits 4 4 t) in_day e
-
-  pub time_when : is_digits 4 4 t ≡ true → is_time t ≡ in_day
-  unfolding is_time
-  time_when e = go (is_digits 4 4 t) e
-    where
-      go : (b : Bool) → b ≡ true → both b in_day ≡ in_day
-      go true h = refl
-      go false h = never h
 
   pub time_digits : is_time t ≡ true → Digits 4 4 t
   unfolding is_time

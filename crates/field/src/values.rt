@@ -1,67 +1,43 @@
 // What digits are worth, dates and times: document 01, "Fields". All of it is inner: what each function means is its definition in
 // specs/Values.antt.
 ghost use Rattle.std.specs.Prelude.{◌≡◌, true, ◌+◌, ◌≤◌, length, take, drop};
-ghost use Rattle.field.specs.Values.{is_byte, among, all_digits, is_digits, value, is_date_text, day_of_text, is_time, minute_of};
-
-fn wide(b: u8) -> u64
-    ensures { result ≡ b }
-{
-    b as u64
-}
+ghost use Rattle.std.specs.List.{list_all};
+ghost use Rattle.field.specs.Values.{is_byte, among, is_digit, all_digits, is_digits, value, is_date_text, day_of_text, is_time, minute_of};
 
 // inner: the text is this one byte
 pub fn is_byte(t: &[u8], b: u8) -> bool
     ensures { result ≡ is_byte b t.now }
 {
-    if t.len() != 1 {
-        return false;
-    }
-    t[0] == b
+    t.len() == 1 && t[0] == b
 }
 
 // inner: the text is one byte, one of the set's
 pub fn is_one_of(t: &[u8], set: &[u8]) -> bool
     ensures { result ≡ among set.now t.now }
 {
-    let mut i = 0;
-    while i < set.len() {
-        if is_byte(t, set[i]) {
-            return true;
-        }
-        i += 1;
-    }
-    false
+    t.len() == 1 && set.contains(&t[0])
+}
+
+#[tactic(auto, unfolding(crate::specs::Values::is_digit))]
+fn is_digit(b: u8) -> bool
+    ensures { result ≡ is_digit b }
+{
+    matches!(b, b'0'..=b'9')
 }
 
 // Whether every byte is a digit.
 fn all_digits(t: &[u8]) -> bool
-    ensures { result ≡ all_digits t.now }
+    ensures { result ≡ list_all is_digit t.now }
 {
-    let mut i = 0;
-    while i < t.len() {
-        let b = t[i];
-        if b < b'0' {
-            return false;
-        }
-        if b > b'9' {
-            return false;
-        }
-        i += 1;
-    }
-    true
+    t.iter().all(|b| is_digit(*b))
 }
 
 // inner: from a to b digits
+#[tactic(auto, using(crate::proofs::ValueLaws::whole_digits))]
 pub fn is_digits(t: &[u8], a: usize, b: usize) -> bool
     ensures { result ≡ is_digits a b t.now }
 {
-    if t.len() < a {
-        return false;
-    }
-    if t.len() > b {
-        return false;
-    }
-    all_digits(t)
+    a <= t.len() && t.len() <= b && all_digits(t)
 }
 
 // inner: eighteen digits are worth less than 10 to the 18, so no sum wraps
@@ -70,10 +46,8 @@ pub fn value_of(t: &[u8]) -> u64
     ensures { result ≡ value t.now }
 {
     let mut v: u64 = 0;
-    let mut i = 0;
-    while i < t.len() {
-        v = v * 10 + (wide(t[i]) - 48);
-        i += 1;
+    for b in t {
+        v = v * 10 + (*b - b'0') as u64;
     }
     v
 }
@@ -95,13 +69,11 @@ fn rest_at(t: &[u8], at: usize) -> u64
 }
 
 // inner: DDMMRRRR, a real date of 1900-2099
+#[tactic(auto, unfolding(crate::specs::Values::is_date_text))]
 pub fn is_date(t: &[u8]) -> bool
     ensures { result ≡ is_date_text t.now }
 {
-    if !is_digits(t, 8, 8) {
-        return false;
-    }
-    dates::is_date(two_at(t, 0), two_at(t, 2), rest_at(t, 4))
+    is_digits(t, 8, 8) && dates::is_date(two_at(t, 0), two_at(t, 2), rest_at(t, 4))
 }
 
 // inner: the day number of a date
@@ -113,16 +85,11 @@ pub fn day_of(t: &[u8]) -> u64
 }
 
 // inner: HHMM, 0000-2359
+#[tactic(auto, unfolding(crate::specs::Values::is_time))]
 pub fn is_time(t: &[u8]) -> bool
     ensures { result ≡ is_time t.now }
 {
-    if !is_digits(t, 4, 4) {
-        return false;
-    }
-    if two_at(t, 0) > 23 {
-        return false;
-    }
-    rest_at(t, 2) <= 59
+    is_digits(t, 4, 4) && two_at(t, 0) <= 23 && rest_at(t, 2) <= 59
 }
 
 // inner: the minute of the day of a time

@@ -9,10 +9,10 @@ ghost use Rattle.field.specs.Stage.{first_unkind, field_fault};
 ghost use Rattle.fields.specs.Check.{Ready, numbered_checked, CheckedIs};
 
 use admits::admits_text;
-use file::{Counted, Refusal, classes, fields_of};
+use file::{Refusal, fields_of};
 use kinds::kind_of;
 use rules::meets_rules;
-use walk::{cut, part};
+use walk::{CutRecord, cut, part};
 
 // What the check of one file comes to.
 #[derive(Clone, Copy)]
@@ -28,18 +28,15 @@ pub enum Checked {
 }
 
 // The number of the first field of a cut record that isn't of its kind; 0 if all are.
-fn first_unkind(file: u64, s: &[u8], places: &[usize; 14], n: usize) -> u64
-    requires { Parted n s.now places.now }
-    ensures { result ≡ first_unkind file 1 (cut_record n s.now places.now) }
+fn first_unkind(file: u64, row: CutRecord, n: usize) -> u64
+    requires { Parted n row.bytes.now row.places.now }
+    ensures { result ≡ first_unkind file 1 (cut_record n row.entry.bytes.now row.entry.places.now) }
 {
-    let mut i = 0;
-    while i < n {
-        let text = part(s, places, i);
+    for i in 0..n {
         let f = (i + 1) as u64;
-        if !admits_text(kind_of(file, f), text) {
+        if !admits_text(kind_of(file, f), part(row, i)) {
             return f;
         }
-        i += 1;
     }
     0
 }
@@ -49,17 +46,20 @@ pub fn first_fault(file: u64, s: &[u8], n: usize) -> Checked
     requires { Ready file n s.now }
     ensures { numbered_checked result ≡ field_fault file (records_in n s.now) }
 {
-    let class = classes();
     let mut places: [usize; 14] = [0; 14];
     let mut at = 0;
     let mut k: u64 = 1;
     while at < s.len() {
-        let next = cut(s, at, n, &class, &mut places);
-        let f = first_unkind(file, s, &places, n);
+        let next = cut(s, at, n, &mut places);
+        let row = CutRecord {
+            bytes: s,
+            places: &places,
+        };
+        let f = first_unkind(file, row, n);
         if f != 0 {
             return Checked::Unkind(file, k, f);
         }
-        if !meets_rules(file, s, &places) {
+        if !meets_rules(file, row) {
             return Checked::Broken(file, k);
         }
         k += 1;
@@ -73,12 +73,8 @@ pub fn check_fields(file: u64, s: &[u8]) -> Checked
     ensures { CheckedIs file s.now result }
 {
     match reader::records(file, s) {
-        Counted::Refused(why) => Checked::Refused(why),
-        Counted::Records(_) => {
-            if file == 1 {
-                return Checked::Sound;
-            }
-            first_fault(file, s, fields_of(file))
-        }
+        Err(why) => Checked::Refused(why),
+        Ok(_) if file == 1 => Checked::Sound,
+        Ok(_) => first_fault(file, s, fields_of(file)),
     }
 }

@@ -7,6 +7,7 @@ use checkresults::{FieldsResult, found_in, in_file};
 use fields::Checked;
 
 // inner: the first fault inside one file, read by itself.
+#[tactic(auto, unfolding(fields::specs::Check::numbered_checked))]
 pub fn fields(file: u64, bytes: &[u8]) -> FieldsResult
     ensures { FieldsGives file bytes.now result }
 {

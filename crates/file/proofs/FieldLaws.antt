@@ -1,4 +1,5 @@
 -- A field at a place of a file: what the reader's functions see of it, and what it does to the reading.
+use Rattle.std.specs.Prelude.{Ok, Err}
 use mathlib.Core.Path.{◌≡◌, refl, sym, ap, ◌∙◌}
 use mathlib.Core.Bool.{Bool, true, false}
 use mathlib.Core.List.{List, [], ◌∷◌}
@@ -14,7 +15,6 @@ use Rattle.file.specs.Bytes.{quote, goes, matched, starts, comma, semicolon, CR,
 use Rattle.file.specs.Format.{ending}
 use Rattle.file.specs.Reading.{opening, within, State, state, is_last, step_in, run, finished_in, spans, outcome_in, outcome}
 use Rattle.file.specs.Fields.{closing, next_field, next_record, halt, end_of, closed_by, ahead_of, ahead_from}
-use Rattle.file.specs.declared.Ahead.TheVariants.{Field, Stop}
 use Rattle.file.specs.declared.Outcome.TheVariants.{Unfit}
 use Rattle.file.proofs.TextLaws.{goes_within, closes_at}
 use Rattle.file.proofs.StepLaws.{TextRun, text_run, stays, run_cons, Passed, field_passed, field_halted}
@@ -135,15 +135,15 @@ unfolding step_in outcome_in
 unopened n f k at a b l q = rw (run_cons n (state opening f k at a) b l, q, stays n f k at a l)
 
 -- what follows a closing quote, by how much of it stands
-pub from_stop : (s : List ℕ) (last : Bool) (at m : ℕ) → matched (ending last) (drop at s) ≡ m → m < length (ending last) → ahead_from s last at ≡ Stop (at + m)
+pub from_stop : (s : List ℕ) (last : Bool) (at m : ℕ) → matched (ending last) (drop at s) ≡ m → m < length (ending last) → ahead_from s last at ≡ Err (at + m)
 unfolding ahead_from
 from_stop s last at m e h = rw (e, lt-ltb m (length (ending last)) h)
 
-pub from_field : (s : List ℕ) (last : Bool) (at : ℕ) → matched (ending last) (drop at s) ≡ length (ending last) → ahead_from s last at ≡ Field (at + length (ending last))
+pub from_field : (s : List ℕ) (last : Bool) (at : ℕ) → matched (ending last) (drop at s) ≡ length (ending last) → ahead_from s last at ≡ Ok (at + length (ending last))
 unfolding ahead_from
 from_field s last at e = rw (e, le-ltb (length (ending last)) (length (ending last)) (omega arith))
 
-pub no_quote_ahead : (s : List ℕ) (at : ℕ) (last : Bool) → eqb (get_or s at 0) quote ≡ false → ahead_of s at last ≡ Stop at
+pub no_quote_ahead : (s : List ℕ) (at : ℕ) (last : Bool) → eqb (get_or s at 0) quote ≡ false → ahead_of s at last ≡ Err at
 unfolding ahead_of
 no_quote_ahead s at last q = rw q
 
@@ -178,7 +178,7 @@ module _ (n f k at a : ℕ) (last : Bool) (h : is_last n f ≡ last) (s : List �
   behind = rw drop-drop
 
   -- a whole field: the reading goes on at the next, and the text is finished
-  pub field_on : (next : ℕ) → ahead_of s at last ≡ Field next
+  pub field_on : (next : ℕ) → ahead_of s at last ≡ Ok next
       → Passed n f k (end_of s (at + 1)) (at + 1) last (state opening f k at a) (drop at s) (drop next s) × (next ≡ end_of s (at + 1) + length (closing last))
   unfolding ahead_of
   field_on next e =
@@ -197,7 +197,7 @@ module _ (n f k at a : ℕ) (last : Bool) (h : is_last n f ≡ last) (s : List �
       (rw (opens (eqb-true (get_or s at 0) quote q), ← w) p, y)))
       (λ q. let g = rw q at e in let z : ◌≡◌ {A = ℕ} 0 1 = cc in absurd (omega arith))
 
-  pub field_near : (next : ℕ) → ahead_of s at last ≡ Field next → next ≤ length s
+  pub field_near : (next : ℕ) → ahead_of s at last ≡ Ok next → next ≤ length s
   unfolding ahead_of
   field_near next e =
       either (eqb (get_or s at 0) quote)
@@ -212,14 +212,14 @@ module _ (n f k at a : ℕ) (last : Bool) (h : is_last n f ≡ last) (s : List �
       (λ q. let g = rw q at e in let z : ◌≡◌ {A = ℕ} 0 1 = cc in absurd (omega arith))
 
   -- so the reading from here on is the reading from the next field on
-  pub field_run : (next : ℕ) → ahead_of s at last ≡ Field next
+  pub field_run : (next : ℕ) → ahead_of s at last ≡ Ok next
       → run n (state opening f k at a) (drop at s) ≡ run n (state opening (next_field last f) (next_record last k) next 0) (drop next s)
   field_run next e =
       let o = field_on next e in
       o.0.runs ∙ ap (λ (x : ℕ). run n (state opening (next_field last f) (next_record last k) x 0) (drop next s)) (sym o.1)
 
   -- and the texts are this one and those from the next field on
-  pub field_spans : (next : ℕ) → ahead_of s at last ≡ Field next
+  pub field_spans : (next : ℕ) → ahead_of s at last ≡ Ok next
       → spans n (state opening f k at a) (drop at s)
       ≡ record { start = at + 1; size = goes (drop (at + 1) s) } ∷ spans n (state opening (next_field last f) (next_record last k) next 0) (drop next s)
   field_spans next e =
@@ -233,7 +233,7 @@ module _ (n f k at a : ℕ) (last : Bool) (h : is_last n f ≡ last) (s : List �
       ∙ ap (λ (x : ℕ). record { start = at + 1; size = x } ∷ spans n (state opening (next_field last f) (next_record last k) next 0) (drop next s)) z
 
   -- not a whole one: the reading halts
-  pub field_off : (place : ℕ) → ahead_of s at last ≡ Stop place → outcome (run n (state opening f k at a) (drop at s)) ≡ halt place (ltb place (length s))
+  pub field_off : (place : ℕ) → ahead_of s at last ≡ Err place → outcome (run n (state opening f k at a) (drop at s)) ≡ halt place (ltb place (length s))
   unfolding ahead_of
   field_off place e =
       either (eqb (get_or s at 0) quote)

@@ -1,14 +1,12 @@
 -- The numberings of the answers on a file tell all cases apart: each case can be told back from what `numbered` gives for it. So the promise of each
 -- call of the reader and the writer allows one result only (the table in the crate `determined`).
-use Rattle.std.specs.Prelude.{◌≡◌, refl, false, ℕ, eqb, get_or}
+use Rattle.std.specs.Prelude.{Result, Ok, Err, ◌≡◌, refl, false, ℕ, eqb, get_or}
 use Rattle.laws.specs.Numbered.{Numbered}
 use Rattle.laws.specs.Settled.{OneToOne, told_back}
 use Rattle.laws.specs.Tests.{pick}
 use Rattle.file.specs.Answers.{numbered, numbered_counted, numbered_stretch, numbered_written}
-use Rattle.file.specs.declared.Counted.{Counted}
 use Rattle.file.specs.declared.Refusal.{Refusal}
 use Rattle.file.specs.declared.Stretch.{Stretch}
-use Rattle.file.specs.declared.Written.{Written}
 
 -- the refusal of this number and place
 pub refusal_of : Numbered → Refusal
@@ -43,29 +41,29 @@ no_answer Refusal.NoRoom = refl
 value : Numbered → ℕ → ℕ
 value a i = get_or a.values i 0
 
-counted_of : Numbered → Counted
-counted_of a = pick (eqb a.number 0) (Counted.Records (value a 0)) (Counted.Refused (refusal_of a))
+counted_of : Numbered → Result ℕ Refusal
+counted_of a = pick (eqb a.number 0) (Ok (value a 0)) (Err (refusal_of a))
 
-counted_told : (c : Counted) → counted_of (numbered_counted c) ≡ c
+counted_told : (c : Result ℕ Refusal) → counted_of (numbered_counted c) ≡ c
 unfolding numbered_counted counted_of value
-counted_told (Counted.Records k) = refl
-counted_told (Counted.Refused r) = rw (no_answer r, refusal_told r)
+counted_told (Ok k) = refl
+counted_told (Err r) = rw (no_answer r, refusal_told r)
 
-stretch_as : Numbered → Stretch
-stretch_as a = pick (eqb a.number 0) (Stretch.At (value a 0) (value a 1)) (Stretch.Refused (refusal_of a))
+stretch_as : Numbered → Result Stretch Refusal
+stretch_as a = pick (eqb a.number 0) (Ok (record { start = value a 0; size = value a 1 })) (Err (refusal_of a))
 
-stretch_told : (x : Stretch) → stretch_as (numbered_stretch x) ≡ x
+stretch_told : (x : Result Stretch Refusal) → stretch_as (numbered_stretch x) ≡ x
 unfolding numbered_stretch stretch_as value
-stretch_told (Stretch.At start size) = refl
-stretch_told (Stretch.Refused r) = rw (no_answer r, refusal_told r)
+stretch_told (Ok x) = refl
+stretch_told (Err r) = rw (no_answer r, refusal_told r)
 
-written_as : Numbered → Written
-written_as a = pick (eqb a.number 0) (Written.Next (value a 0)) (Written.Refused (refusal_of a))
+written_as : Numbered → Result ℕ Refusal
+written_as a = pick (eqb a.number 0) (Ok (value a 0)) (Err (refusal_of a))
 
-written_told : (w : Written) → written_as (numbered_written w) ≡ w
+written_told : (w : Result ℕ Refusal) → written_as (numbered_written w) ≡ w
 unfolding numbered_written written_as value
-written_told (Written.Next place) = refl
-written_told (Written.Refused r) = rw (no_answer r, refusal_told r)
+written_told (Ok place) = refl
+written_told (Err r) = rw (no_answer r, refusal_told r)
 
 -- the numberings tell all cases apart
 pub refusal_one : OneToOne numbered

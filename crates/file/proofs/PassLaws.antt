@@ -1,4 +1,5 @@
 -- A record at a place of a file, field by field: how far it has come, and where it ends or breaks off.
+use Rattle.std.specs.Prelude.{Result, Ok, Err}
 use mathlib.Core.Path.{◌≡◌, refl, sym, ap, ◌∙◌}
 use mathlib.Core.Bool.{Bool, true, false}
 use mathlib.Core.List.{List}
@@ -12,8 +13,6 @@ use Rattle.file.specs.Bytes.{quote, starts, closes}
 use Rattle.file.specs.Reading.{opening, State, state, is_last, run, outcome_in, outcome}
 use Rattle.file.specs.Fields.{halt, ahead_of, ahead_from, ahead_at}
 use Rattle.file.specs.Reader.{RecordAhead, AheadNear, EndsNear}
-use Rattle.file.specs.declared.Ahead.{Ahead}
-use Rattle.file.specs.declared.Ahead.TheVariants.{Field, Stop}
 use Rattle.file.proofs.FieldLaws.{starts_at, starts_past, ahead_closed, field_on, field_near, field_run, field_off, no_quote_ahead}
 
 -- the two ways to say what lies ahead of a place within the file are one; past its end nothing does
@@ -24,23 +23,23 @@ ahead_at_lem s at last h =
     (λ q. rw (starts_at quote s at h, q) (sym (ahead_closed s at last (at + 1 + closes (drop (at + 1) s)) (eqb-true (get_or s at 0) quote q) refl)))
     (λ q. rw (starts_at quote s at h, q) (unopened_ahead q))
   where
-    unopened_ahead : eqb (get_or s at 0) quote ≡ false → Stop at ≡ ahead_of s at last
+    unopened_ahead : eqb (get_or s at 0) quote ≡ false → Err at ≡ ahead_of s at last
     unopened_ahead q = sym (no_quote_ahead s at last q)
 
 pub at_closed : (s : List ℕ) (at : ℕ) (last : Bool) (close : ℕ) → starts quote (drop at s) ≡ true → close ≡ at + 1 + closes (drop (at + 1) s) → ahead_at s at last ≡ ahead_from s last close
 unfolding ahead_at
 at_closed s at last close h e = rw (h, e)
 
-pub at_unopened : (s : List ℕ) (at : ℕ) (last : Bool) → starts quote (drop at s) ≡ false → ahead_at s at last ≡ Stop at
+pub at_unopened : (s : List ℕ) (at : ℕ) (last : Bool) → starts quote (drop at s) ≡ false → ahead_at s at last ≡ Err at
 unfolding ahead_at
 at_unopened s at last h = rw h
 
-pub near_as : (s : List ℕ) (at close : ℕ) (r : Ahead) → at < close → close ≤ length s → EndsNear s close r → AheadNear s at r
+pub near_as : (s : List ℕ) (at close : ℕ) (r : Result ℕ ℕ) → at < close → close ≤ length s → EndsNear s close r → AheadNear s at r
 unfolding EndsNear AheadNear
-near_as s at close (Field next) h n e = (omega arith, e.1)
-near_as s at close (Stop place) h n e = e n
+near_as s at close (Ok next) h n e = (omega arith, e.1)
+near_as s at close (Err place) h n e = e n
 
-pub ahead_past : (s : List ℕ) (at : ℕ) (last : Bool) → length s ≤ at → ahead_at s at last ≡ Stop at
+pub ahead_past : (s : List ℕ) (at : ℕ) (last : Bool) → length s ≤ at → ahead_at s at last ≡ Err at
 unfolding ahead_at
 ahead_past s at last h = rw (starts_past quote s at h)
 
@@ -62,13 +61,13 @@ ends_here n f k at s e h =
 
 module _ (n : ℕ) (s : List ℕ) (start at f : ℕ) (r : SoFar n s start at f) where
   -- a field lies ahead only of a place within the file
-  within_file : (last : Bool) (next : ℕ) → ahead_at s at last ≡ Field next → at < length s
+  within_file : (last : Bool) (next : ℕ) → ahead_at s at last ≡ Ok next → at < length s
   within_file last next e =
       either (ltb at (length s))
       (λ t. ltb-true at (length s) t)
       (λ t. let g = sym (ahead_past s at last (ltb-false at (length s) t)) ∙ e in let z : ◌≡◌ {A = ℕ} 0 1 = cc in absurd (omega arith))
 
-  pub so_far_next : (next : ℕ) → is_last n f ≡ false → ahead_at s at false ≡ Field next → SoFar n s start next (f + 1)
+  pub so_far_next : (next : ℕ) → is_last n f ≡ false → ahead_at s at false ≡ Ok next → SoFar n s start next (f + 1)
   so_far_next next l e =
       let i = within_file false next e in
       let a = sym (ahead_at_lem s at false i) ∙ e in
@@ -80,7 +79,7 @@ module _ (n : ℕ) (s : List ℕ) (start at f : ℕ) (r : SoFar n s start at f) 
         runs = λ k. r.runs k ∙ field_run n f k at 0 false l s i next a;
       }
 
-  pub so_far_last : (next : ℕ) → is_last n f ≡ true → ahead_at s at true ≡ Field next → RecordAhead n s start (Field next)
+  pub so_far_last : (next : ℕ) → is_last n f ≡ true → ahead_at s at true ≡ Ok next → RecordAhead n s start (Ok next)
   unfolding RecordAhead
   so_far_last next l e =
       let i = within_file true next e in
@@ -88,7 +87,7 @@ module _ (n : ℕ) (s : List ℕ) (start at f : ℕ) (r : SoFar n s start at f) 
       let o = field_on n f 0 at 0 true l s i next a in
       (omega (arith, r.from, o.1), field_near n f 0 at 0 true l s i next a, λ k. r.runs k ∙ field_run n f k at 0 true l s i next a)
 
-  pub so_far_stop : (last : Bool) (place : ℕ) → is_last n f ≡ last → ahead_at s at last ≡ Stop place → place ≤ length s → RecordAhead n s start (Stop place)
+  pub so_far_stop : (last : Bool) (place : ℕ) → is_last n f ≡ last → ahead_at s at last ≡ Err place → place ≤ length s → RecordAhead n s start (Err place)
   unfolding RecordAhead
   so_far_stop last place l e near = (near, λ k. ap (λ (st : State). outcome st) (r.runs k) ∙ off k)
     where
@@ -98,7 +97,7 @@ module _ (n : ℕ) (s : List ℕ) (start at f : ℕ) (r : SoFar n s start at f) 
           (λ t. let i = ltb-true at (length s) t in field_off n f k at 0 last l s i place (sym (ahead_at_lem s at last i) ∙ e))
           (λ t.
           let g = ltb-false at (length s) t in
-          let x : Stop at ≡ Stop place = sym (ahead_past s at last g) ∙ e in
+          let x : Err at ≡ Err place = sym (ahead_past s at last g) ∙ e in
           let y : at ≡ place = cc in
           let near_at = r.near in
           ends_here n f k at s (omega arith) (λ z. let u = r.some z in omega arith) ∙ rw y)

@@ -1,5 +1,6 @@
 -- The text that so many others stand before, sought from a file's start on: in a legal file a whole field lies ahead as long as a text is
 -- still to come.
+use Rattle.std.specs.Prelude.{Result, Ok, Err}
 use mathlib.Core.Path.{◌≡◌, refl, sym, ap, ◌∙◌}
 use mathlib.Core.Bool.{Bool, true, false}
 use mathlib.Core.List.{List, [], ◌∷◌}
@@ -9,11 +10,9 @@ use lib.Dec.{ltb}
 use lib.ListN.{length, get_or, drop, drop_of_length-le}
 use borrow.Author.Tests.{ltb-true, ltb-false}
 use Rattle.laws.specs.Tests.{either}
-use Rattle.file.specs.Reading.{opening, within, State, state, is_last, run, Span, spans, outcome}
+use Rattle.file.specs.Reading.{opening, State, state, is_last, run, Span, spans, outcome}
 use Rattle.file.specs.Fields.{closing, next_field, next_record, halt, end_of, ahead_of}
 use Rattle.file.specs.Reader.{Sought, OpensAt, text_span}
-use Rattle.file.specs.declared.Ahead.{Ahead}
-use Rattle.file.specs.declared.Ahead.TheVariants.{Field, Stop}
 use Rattle.file.proofs.Sound.{IsWhole}
 use Rattle.file.proofs.FieldLaws.{field_on, field_near, field_run, field_spans, field_off}
 
@@ -26,7 +25,7 @@ halt_not_whole p false w = w
 pub record TextAhead (s : List ℕ) (at : ℕ) (last : Bool) : Type 0 where
   pub within : at < length s
   pub next : ℕ
-  pub ahead : ahead_of s at last ≡ Field next
+  pub ahead : ahead_of s at last ≡ Ok next
 
 no_text : (n : ℕ) (st : State) (s : List ℕ) (at : ℕ) → length s ≤ at → spans n st (drop at s) ≡ []
 unfolding spans
@@ -38,9 +37,9 @@ text_ahead n f k at s w h =
     let i : at < length s = either (ltb at (length s)) (λ t. ltb-true at (length s) t) (λ t. absurd (omega (arith, ap length (no_text n (state opening f k at 0) s at (ltb-false at (length s) t))))) in
     go i (ahead_of s at (is_last n f)) refl
   where
-    go : at < length s → (a : Ahead) → ahead_of s at (is_last n f) ≡ a → TextAhead s at (is_last n f)
-    go i (Field next) e = record { within = i; next = next; ahead = e }
-    go i (Stop place) e = absurd (halt_not_whole place (ltb place (length s)) (rw (field_off n f k at 0 (is_last n f) refl s i place e) at w))
+    go : at < length s → (a : Result ℕ ℕ) → ahead_of s at (is_last n f) ≡ a → TextAhead s at (is_last n f)
+    go i (Ok next) e = record { within = i; next = next; ahead = e }
+    go i (Err place) e = absurd (halt_not_whole place (ltb place (length s)) (rw (field_off n f k at 0 (is_last n f) refl s i place e) at w))
 
 -- the text that is sought has `left` texts before it from `at` on, where a field's opening quote is due
 pub record TextsLeft (n : ℕ) (s : List ℕ) (others at f left : ℕ) : Type 0 where
@@ -61,7 +60,7 @@ module _ (n : ℕ) (s : List ℕ) (others at f left : ℕ) (l : TextsLeft n s ot
   left_ahead = text_ahead n f l.k at s l.whole (omega (arith, l.has))
 
   -- past a whole field there is one text less
-  pub left_next : (next : ℕ) → ahead_of s at (is_last n f) ≡ Field next → 0 < left → TextsLeft n s others next (next_field (is_last n f) f) (left - 1)
+  pub left_next : (next : ℕ) → ahead_of s at (is_last n f) ≡ Ok next → 0 < left → TextsLeft n s others next (next_field (is_last n f) f) (left - 1)
   left_next next e h =
       let i = left_ahead.within in
       let r = field_run n f l.k at 0 (is_last n f) refl s i next e in

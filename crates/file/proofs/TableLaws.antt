@@ -6,7 +6,6 @@ use Prim.Native.Nat.{ℕ, zero, suc, ◌+◌, ◌<◌}
 use native.Mathlib.Omega.{arith}
 use lib.ListN.{get_or}
 use Rattle.file.specs.Bytes.{class_of}
-use Rattle.file.specs.Reader.{Classes}
 
 -- the classes of the n bytes from b on
 abbrev pub classes_from : ℕ → ℕ → List ℕ
@@ -20,6 +19,6 @@ class_at (suc n) b (suc k) h =
     let e : suc b + k ≡ b + suc k = omega arith in
     class_at n (suc b) k (omega arith) ∙ ap class_of e
 
--- a function with `let class = CLASS;` cites it unfolding class_of plain permitted_byte undefined
-pub classes : Classes (classes_from 256 0)
+-- a function that reads `CLASS` cites it unfolding class_of plain permitted_byte undefined
+pub classes : (b : ℕ) → b < 256 → get_or (classes_from 256 0) b 0 ≡ class_of b
 classes b h = let e : 0 + b ≡ b = omega arith in class_at 256 0 b h ∙ ap class_of e

@@ -2,6 +2,7 @@
 use mathlib.Core.Path.{◌≡◌, refl, sym, ap, ◌∙◌}
 use mathlib.Core.Bool.{Bool, true, false, not}
 use mathlib.Core.List.{List, [], ◌∷◌}
+use mathlib.Core.Logic.{◌⊎◌, inl, inr}
 use Prim.Native.Nat.{ℕ, suc, ◌+◌, ◌≤◌, ◌<◌}
 use native.Mathlib.Numerals.{add-one}
 use native.Mathlib.Omega.{arith}
@@ -157,6 +158,19 @@ module _ (s : List ℕ) (i : ℕ) (h : i < length s) where
       let d : drop (suc i) s ≡ get_or s (i + 1) 0 ∷ drop (suc (i + 1)) s = rw (← add-one i) (drop-cons s (i + 1) 0 l) in
       rw (drop-cons s i 0, d, q)
 
+-- which bytes follow a quote that ends a field
+module _ (s : List ℕ) (i : ℕ) (h : i < length s) (q : get_or s i 0 ≡ quote) (l : i + 1 < length s) where
+  pub ends_followed : ((get_or s (i + 1) 0 ≡ comma) ⊎ (get_or s (i + 1) 0 ≡ semicolon)) → ends (drop i s) ≡ true
+  ends_followed f = ends_next s i h q l ∙ go (get_or s (i + 1) 0) f
+    where
+      go : (b : ℕ) → ((b ≡ comma) ⊎ (b ≡ semicolon)) → one_of (eqb b comma) (eqb b semicolon) ≡ true
+      go b (inl e) = rw (eq-eqb b comma e)
+      go b (inr e) = rw e
+
+  pub ends_unfollowed : ((get_or s (i + 1) 0 ≡ comma) ⊎ (get_or s (i + 1) 0 ≡ semicolon) → ⊥) → ends (drop i s) ≡ false
+  ends_unfollowed f =
+      ends_next s i h q l ∙ rw (ne_eqb (get_or s (i + 1) 0) comma (λ e. f (inl e)), ne_eqb (get_or s (i + 1) 0) semicolon (λ e. f (inr e)))
+
 -- what the class of a byte says of it
 pub class_plain : (b : ℕ) → class_of b ≡ 46 → plain b ≡ true
 unfolding class_of
@@ -217,6 +231,21 @@ closes_unfit s at i e h = let k = rw h at (closes_at s at i e) in omega arith
 
 pub closes_ends : (s : List ℕ) (at i : ℕ) → i ≡ at + goes (drop at s) → ends (drop i s) ≡ true → i + 1 ≡ at + closes (drop at s)
 closes_ends s at i e h = let k = rw h at (closes_at s at i e) in omega arith
+
+-- where a text stops, a field ends exactly if a quote stands there
+pub stopped : (s : List ℕ) (i : ℕ) → i < length s → goes (drop i s) ≡ 0 → get_or s i 0 ≡ quote → ends (drop i s) ≡ true
+stopped s i h e q =
+    either (ends (drop i s)) (λ t. t) (λ t. absurd (let z = text_quote s i h q t in omega arith))
+
+goes_stop : (l : List ℕ) → goes (drop (goes l) l) ≡ 0
+unfolding goes
+goes_stop [] = refl
+goes_stop (b ∷ l) = either (goes_on (b ∷ l)) (λ h. rw h (goes_stop l)) (λ h. rw h (rw h))
+
+pub stops_at : (s : List ℕ) (at i : ℕ) → i ≡ at + goes (drop at s) → goes (drop i s) ≡ 0
+stops_at s at i e =
+    let d : drop (goes (drop at s)) (drop at s) ≡ drop i s = rw (drop-drop, ← e) in
+    rw d at (goes_stop (drop at s))
 
 pub ends_past : (s : List ℕ) (i : ℕ) → length s ≤ i → ends (drop i s) ≡ false
 unfolding ends

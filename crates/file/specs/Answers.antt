@@ -1,5 +1,5 @@
 -- What the reader's calls come back with, document 01's number and place for each case of an answer, and the promises.
-use Rattle.std.specs.Prelude.{ℕ, ◌+◌, ◌-◌, ◌*◌, ◌≡◌, List, [], ◌∷◌, leb, get_or, length, take, drop}
+use Rattle.std.specs.Prelude.{Result, Ok, Err, ℕ, ◌+◌, ◌-◌, ◌*◌, ◌≡◌, List, [], ◌∷◌, leb, get_or, length, take, drop}
 use Rattle.laws.specs.Tests.{pick, both}
 use Rattle.laws.specs.Numbered.{Numbered, answered, refused, refused_at}
 use Rattle.file.specs.Format.{Text}
@@ -8,9 +8,7 @@ use Rattle.file.specs.Reading.{Span, fresh, spans, reading}
 use Rattle.file.specs.declared.Outcome.{Outcome}
 use Rattle.file.specs.declared.Outcome.TheVariants.{Whole, Unfit, CutShort}
 use Rattle.file.specs.declared.Refusal.{Refusal}
-use Rattle.file.specs.declared.Counted.{Counted}
 use Rattle.file.specs.declared.Stretch.{Stretch}
-use Rattle.file.specs.declared.Written.{Written}
 
 -- document 01's number and place for each refusal
 unfoldable pub numbered : Refusal → Numbered
@@ -22,17 +20,17 @@ numbered Refusal.NotPermitted = refused 21
 numbered Refusal.NoRoom = refused 22
 
 -- and for each answer with its values: how many records; start and size of a stretch; the place after what was written
-unfoldable pub numbered_counted : Counted → Numbered
-numbered_counted (Counted.Records k) = answered (k ∷ [])
-numbered_counted (Counted.Refused r) = numbered r
+unfoldable pub numbered_counted : Result ℕ Refusal → Numbered
+numbered_counted (Ok k) = answered (k ∷ [])
+numbered_counted (Err r) = numbered r
 
-unfoldable pub numbered_stretch : Stretch → Numbered
-numbered_stretch (Stretch.At start size) = answered (start ∷ size ∷ [])
-numbered_stretch (Stretch.Refused r) = numbered r
+unfoldable pub numbered_stretch : Result Stretch Refusal → Numbered
+numbered_stretch (Ok x) = answered (x.start ∷ x.size ∷ [])
+numbered_stretch (Err r) = numbered r
 
-unfoldable pub numbered_written : Written → Numbered
-numbered_written (Written.Next place) = answered (place ∷ [])
-numbered_written (Written.Refused r) = numbered r
+unfoldable pub numbered_written : Result ℕ Refusal → Numbered
+numbered_written (Ok place) = answered (place ∷ [])
+numbered_written (Err r) = numbered r
 
 -- 20 for a file number outside 1-13, 1 for a file that is too long, else what the reading came to
 unfoldable pub asked : (Outcome → Numbered) → ℕ → List ℕ → Numbered
@@ -74,10 +72,10 @@ abbrev pub text_of : ℕ → List ℕ → ℕ → ℕ → Text
 text_of file s r f = stretch_in s (stretch_of file s r f).values
 
 -- the promises; that of a part of the file speaks of its bytes
-abbrev pub RecordsIs : ℕ → List ℕ → Counted → Type 0
+abbrev pub RecordsIs : ℕ → List ℕ → Result ℕ Refusal → Type 0
 RecordsIs file s r = numbered_counted r ≡ counted_of file s
 
-abbrev pub StretchIs : ℕ → List ℕ → ℕ → ℕ → Stretch → Type 0
+abbrev pub StretchIs : ℕ → List ℕ → ℕ → ℕ → Result Stretch Refusal → Type 0
 StretchIs file s r f x = numbered_stretch x ≡ stretch_of file s r f
 
 abbrev pub PartIs : ℕ → List ℕ → ℕ → ℕ → Text → Type 0

@@ -1,10 +1,8 @@
 -- A field at a time: what one field does to a reading, and where it stops if it is not whole.
-use Rattle.std.specs.Prelude.{ℕ, ◌+◌, List, ◌∷◌, Bool, eqb, ltb, get_or, length, drop}
+use Rattle.std.specs.Prelude.{Result, Ok, Err, ℕ, ◌+◌, List, ◌∷◌, Bool, eqb, ltb, get_or, length, drop}
 use Rattle.laws.specs.Tests.{pick}
 use Rattle.file.specs.Bytes.{quote, goes, closes, matched, starts}
 use Rattle.file.specs.Format.{ending}
-use Rattle.file.specs.declared.Ahead.{Ahead}
-use Rattle.file.specs.declared.Ahead.TheVariants.{Field, Stop}
 use Rattle.file.specs.declared.Outcome.{Outcome}
 use Rattle.file.specs.declared.Outcome.TheVariants.{Unfit, CutShort}
 
@@ -32,21 +30,21 @@ abbrev pub closed_by : List ℕ → Bool → ℕ → ℕ
 closed_by s last at = matched (closing last) (drop at s)
 
 -- where the field comes to whose opening quote is due at `at`
-unfoldable pub ahead_of : List ℕ → ℕ → Bool → Ahead
+unfoldable pub ahead_of : List ℕ → ℕ → Bool → Result ℕ ℕ
 ahead_of s at last =
     pick (eqb (get_or s at 0) quote)
     (pick (ltb (closed_by s last (end_of s (at + 1))) (length (closing last)))
-    (Stop (end_of s (at + 1) + closed_by s last (end_of s (at + 1))))
-    (Field (end_of s (at + 1) + closed_by s last (end_of s (at + 1)))))
-    (Stop at)
+    (Err (end_of s (at + 1) + closed_by s last (end_of s (at + 1))))
+    (Ok (end_of s (at + 1) + closed_by s last (end_of s (at + 1)))))
+    (Err at)
 
 -- where what follows a closing quote comes to, due from `at` on
-unfoldable pub ahead_from : List ℕ → Bool → ℕ → Ahead
+unfoldable pub ahead_from : List ℕ → Bool → ℕ → Result ℕ ℕ
 ahead_from s last at =
     pick (ltb (matched (ending last) (drop at s)) (length (ending last)))
-    (Stop (at + matched (ending last) (drop at s)))
-    (Field (at + matched (ending last) (drop at s)))
+    (Err (at + matched (ending last) (drop at s)))
+    (Ok (at + matched (ending last) (drop at s)))
 
 -- where the field comes to whose opening quote is due at `at`, by what follows its text's closing
-unfoldable pub ahead_at : List ℕ → ℕ → Bool → Ahead
-ahead_at s at last = pick (starts quote (drop at s)) (ahead_from s last (at + 1 + closes (drop (at + 1) s))) (Stop at)
+unfoldable pub ahead_at : List ℕ → ℕ → Bool → Result ℕ ℕ
+ahead_at s at last = pick (starts quote (drop at s)) (ahead_from s last (at + 1 + closes (drop (at + 1) s))) (Err at)

@@ -1,20 +1,14 @@
 -- What the reader's inner functions ask and ensure.
-use Rattle.std.specs.Prelude.{ℕ, ◌+◌, ◌≤◌, ◌<◌, ◌≡◌, List, [], ◌∷◌, ltb, get_or, length, drop}
+use Rattle.std.specs.Prelude.{Result, Ok, Err, ℕ, ◌+◌, ◌≤◌, ◌<◌, ◌≡◌, List, [], ◌∷◌, ltb, get_or, length, drop}
 use Rattle.laws.specs.Tests.{pick, both}
 use Rattle.laws.specs.Numbered.{Numbered, answered, refused}
 use Rattle.file.specs.Answers.{span_of}
-use Rattle.file.specs.Bytes.{class_of, goes}
+use Rattle.file.specs.Bytes.{goes}
 use Rattle.file.specs.Files.{among}
 use Rattle.file.specs.Reading.{Span, fresh, spans, reading, opening, state, run, outcome}
 use Rattle.file.specs.Fields.{halt}
-use Rattle.file.specs.declared.Ahead.{Ahead}
 use Rattle.file.specs.declared.Outcome.TheVariants.{Whole}
 use Rattle.file.specs.declared.Stretch.{Stretch}
-use Rattle.file.specs.declared.Ahead.TheVariants.{Field, Stop}
-
--- a table holds the class of each byte
-abbrev pub Classes : List ℕ → Type 0
-Classes table = (b : ℕ) → b < 256 → get_or table b 0 ≡ class_of b
 
 -- r is n bytes on from `at`, and within s
 pub record Reached (s : List ℕ) (at n r : ℕ) : Type 0 where
@@ -22,22 +16,22 @@ pub record Reached (s : List ℕ) (at n r : ℕ) : Type 0 where
   pub near : r ≤ length s
 
 -- what lies ahead of `at` is within s, and a whole field takes some bytes
-unfoldable pub AheadNear : List ℕ → ℕ → Ahead → Type 0
-AheadNear s at (Field next) = (at < next) × (next ≤ length s)
-AheadNear s at (Stop place) = place ≤ length s
+unfoldable pub AheadNear : List ℕ → ℕ → Result ℕ ℕ → Type 0
+AheadNear s at (Ok next) = (at < next) × (next ≤ length s)
+AheadNear s at (Err place) = place ≤ length s
 
 -- the same of what follows a closing quote, where `at` is within s
-unfoldable pub EndsNear : List ℕ → ℕ → Ahead → Type 0
-EndsNear s at (Field next) = (at < next) × (next ≤ length s)
-EndsNear s at (Stop place) = at ≤ length s → place ≤ length s
+unfoldable pub EndsNear : List ℕ → ℕ → Result ℕ ℕ → Type 0
+EndsNear s at (Ok next) = (at < next) × (next ≤ length s)
+EndsNear s at (Err place) = at ≤ length s → place ≤ length s
 
 -- where the record comes to that starts at `at`, whatever records stand before it: the reading goes on at the next, or halts
-unfoldable pub RecordAhead : ℕ → List ℕ → ℕ → Ahead → Type 0
-RecordAhead n s at (Field next) =
+unfoldable pub RecordAhead : ℕ → List ℕ → ℕ → Result ℕ ℕ → Type 0
+RecordAhead n s at (Ok next) =
     (at < next)
     × (next ≤ length s)
     × ((k : ℕ) → run n (state opening 0 k at 0) (drop at s) ≡ run n (state opening 0 (k + 1) next 0) (drop next s))
-RecordAhead n s at (Stop place) = (place ≤ length s) × ((k : ℕ) → outcome (run n (state opening 0 k at 0) (drop at s)) ≡ halt place (ltb place (length s)))
+RecordAhead n s at (Err place) = (place ≤ length s) × ((k : ℕ) → outcome (run n (state opening 0 k at 0) (drop at s)) ≡ halt place (ltb place (length s)))
 
 -- s is a legal file, and has a text that so many others stand before
 pub record Sought (n : ℕ) (s : List ℕ) (others : ℕ) : Type 0 where
@@ -56,12 +50,11 @@ pub record OpensAt (n : ℕ) (s : List ℕ) (others at : ℕ) : Type 0 where
   pub text : text_span n s others ≡ record { start = at + 1; size = goes (drop (at + 1) s) }
 
 unfoldable pub text_after : ℕ → List ℕ → ℕ → Stretch
-text_after n s others = Stretch.At (text_span n s others).start (text_span n s others).size
+text_after n s others = record { start = (text_span n s others).start; size = (text_span n s others).size }
 
 -- a stretch is inside a file of so many bytes
-unfoldable pub Inside : ℕ → Stretch → Type 0
-Inside size (Stretch.At start n) = start + n ≤ size
-Inside size (Stretch.Refused r) = Unit
+abbrev pub Inside : ℕ → Stretch → Type 0
+Inside size x = x.start + x.size ≤ size
 
 -- s is a legal file of k records with n fields each
 pub record Reads (n : ℕ) (s : List ℕ) (k : ℕ) : Type 0 where

@@ -1,5 +1,5 @@
 -- Document 01, "Bytes of a file": the writer puts one field into the middle of a lent buffer.
-use Rattle.std.specs.Prelude.{ℕ, ◌+◌, ◌≡◌, List, [], ◌∷◌, Bool, eqb, leb, length}
+use Rattle.std.specs.Prelude.{Result, ℕ, ◌+◌, ◌≡◌, List, [], ◌∷◌, Bool, eqb, leb, length}
 use Rattle.laws.specs.Tests.{pick, both}
 use Rattle.laws.specs.Splice.{splice}
 use Rattle.laws.specs.Numbered.{Numbered, answered, refused}
@@ -7,7 +7,7 @@ use Rattle.file.specs.Bytes.{permitted_text}
 use Rattle.file.specs.Format.{Text, written_field}
 use Rattle.file.specs.Files.{among, is_file, fields_of}
 use Rattle.file.specs.Answers.{numbered_written}
-use Rattle.file.specs.declared.Written.{Written}
+use Rattle.file.specs.declared.Refusal.{Refusal}
 
 -- file has a field of this number
 unfoldable pub has_field : ℕ → ℕ → Bool
@@ -36,6 +36,6 @@ buffer_of file f t d place =
     pick (both (has_field file f) (both (permitted_text t) (fits (field_bytes file f t) (length d) place))) (splice d place (field_bytes file f t)) d
 
 -- the promise: the answer, and what the buffer d holds afterwards
-abbrev pub WriteIs : ℕ → ℕ → Text → List ℕ → ℕ → Written → List ℕ → Type 0
+abbrev pub WriteIs : ℕ → ℕ → Text → List ℕ → ℕ → Result ℕ Refusal → List ℕ → Type 0
 WriteIs file f t d place r after =
     (numbered_written r ≡ written_of file f t (length d) place) × (after ≡ buffer_of file f t d place)

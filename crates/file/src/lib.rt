@@ -4,7 +4,7 @@
 
 mod table;
 
-pub use table::{classes, fields_of};
+pub use table::{class_of, fields_of};
 
 // What reading a file of records comes to.
 #[derive(Clone, Copy)]
@@ -15,15 +15,6 @@ pub enum Outcome {
     Unfit(usize),
     // The file ends at this offset, inside a record.
     CutShort(usize),
-}
-
-// inner: where a field that starts at some place comes to.
-#[derive(Clone, Copy)]
-pub enum Ahead {
-    // It is whole, and the next starts here.
-    Field(usize),
-    // It gets no further than here.
-    Stop(usize),
 }
 
 // Why a call refuses; the file's number and the offset where document 01 names a place.
@@ -37,22 +28,9 @@ pub enum Refusal {
     NoRoom,
 }
 
+// A stretch of the file.
 #[derive(Clone, Copy)]
-pub enum Counted {
-    Records(u64),
-    Refused(Refusal),
-}
-
-// A stretch of the file: its start and its size.
-#[derive(Clone, Copy)]
-pub enum Stretch {
-    At(u64, u64),
-    Refused(Refusal),
-}
-
-// The place after what was written.
-#[derive(Clone, Copy)]
-pub enum Written {
-    Next(u64),
-    Refused(Refusal),
+pub struct Stretch {
+    pub start: u64,
+    pub size: u64,
 }

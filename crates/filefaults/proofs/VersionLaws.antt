@@ -1,12 +1,13 @@
 -- What the code asks VerzeJDF says of its fault: its reading, its one record, that record's text.
 use mathlib.Core.Path.{◌≡◌, refl}
-use mathlib.Core.Bool.{Bool, true, false}
+use mathlib.Core.Bool.{true, false}
 use mathlib.Core.List.{List, [], ◌∷◌}
 use Prim.Native.Nat.{ℕ, ◌≤◌}
 use native.Mathlib.Omega.{arith}
 use lib.Dec.{eqb}
-use lib.ListN.{length, get_or}
-use Rattle.laws.specs.Tests.{both}
+use lib.Pointwise.{pointwise}
+use lib.ListN.{length}
+use Rattle.laws.specs.Tests.{either}
 use Rattle.laws.specs.Numbered.{answered, refused_in}
 use Rattle.file.specs.Format.{Text, Fields}
 use Rattle.file.specs.Reading.{reading}
@@ -44,27 +45,10 @@ module _ (rs : List Fields) (r : Fields) (qs : List Fields) (e : rs ≡ r ∷ qs
   unfolding version_fault
   version_wrong h = rw (e, z, f, h)
 
--- a text of three bytes is `1.8` by each of them; one of another size isn't
-both_no : (a : Bool) → both a false ≡ false
-both_no true = refl
-both_no false = refl
-
-both_yes : (a : Bool) → both a true ≡ a
-both_yes true = refl
-both_yes false = refl
-
-pub other_size : (t : Text) → (length t ≡ 3 → ⊥) → is_version t ≡ false
-unfolding is_version same
-other_size [] h = refl
-other_size (a ∷ []) h = both_no (eqb a 49)
-other_size (a ∷ b ∷ []) h = rw (both_no (eqb b 46)) (both_no (eqb a 49))
-other_size (a ∷ b ∷ c ∷ []) h = absurd (h refl)
-other_size (a ∷ b ∷ c ∷ d ∷ t) h = rw (both_no (eqb c 56), both_no (eqb b 46)) (both_no (eqb a 49))
-
-pub three_bytes : (t : Text) → length t ≡ 3 → is_version t ≡ both (eqb (get_or t 0 0) 49) (both (eqb (get_or t 1 0) 46) (eqb (get_or t 2 0) 56))
-unfolding is_version same
-three_bytes [] h = absurd (omega arith)
-three_bytes (a ∷ []) h = absurd (omega arith)
-three_bytes (a ∷ b ∷ []) h = absurd (omega arith)
-three_bytes (a ∷ b ∷ c ∷ []) h = rw (both_yes (eqb c 56))
-three_bytes (a ∷ b ∷ c ∷ d ∷ t) h = absurd (omega arith)
+-- bytes that are compared one by one are the same numbers
+pub bytes_same : (s t : Text) → pointwise eqb s t ≡ same s t
+unfolding same
+bytes_same [] [] = refl
+bytes_same [] (b ∷ t) = refl
+bytes_same (a ∷ s) [] = refl
+bytes_same (a ∷ s) (b ∷ t) = either (eqb a b) (λ p. rw p (bytes_same s t)) (λ p. rw p)

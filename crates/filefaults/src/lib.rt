@@ -11,14 +11,15 @@ ghost use Rattle.filefaults.specs.Version.{RightVersion};
 
 use fault::{Fault, is_none};
 use fields::Checked;
-use file::{Outcome, Refusal, classes};
+use file::{Outcome, Refusal};
 use scanner::read;
-use walk::{cut, part};
+use walk::{CutRecord, cut, part};
 
 // The greatest length of a file.
 pub const LONGEST: usize = 16_777_215;
 
 // inner: what the reading of a file came to, as a fault
+#[tactic(auto, unfolding(fault::specs::Answers::numbered_fault, file::specs::Answers::numbered, crate::specs::Faults::outcome_fault))]
 pub fn outcome_fault(file: u64, o: Outcome) -> Fault
     ensures { numbered_fault result ≡ outcome_fault file o }
 {
@@ -33,16 +34,7 @@ pub fn outcome_fault(file: u64, o: Outcome) -> Fault
 fn is_version(t: &[u8]) -> bool
     ensures { result ≡ is_version t.now }
 {
-    if t.len() != 3 {
-        return false;
-    }
-    if t[0] != b'1' {
-        return false;
-    }
-    if t[1] != b'.' {
-        return false;
-    }
-    t[2] == b'8'
+    t == b"1.8".as_slice()
 }
 
 // inner: 4: VerzeJDF, legal, is one record `1.8`
@@ -50,22 +42,27 @@ pub fn version_fault(s: &[u8]) -> Fault
     requires { LegalFrom 1 s.now 0 }
     ensures { numbered_fault result ≡ version_fault (records_in 1 s.now) }
 {
-    if s.len() == 0 {
+    if s.is_empty() {
         return Fault::Version(0, 0);
     }
-    let class = classes();
     let mut places: [usize; 14] = [0; 14];
-    let next = cut(s, 0, 1, &class, &mut places);
+    let next = cut(s, 0, 1, &mut places);
+    let row = CutRecord {
+        bytes: s,
+        places: &places,
+    };
     if next < s.len() {
         return Fault::Version(0, 0);
     }
-    if is_version(part(s, &places, 0)) {
-        return Fault::None;
+    if is_version(part(row, 0)) {
+        Fault::None
+    } else {
+        Fault::Version(1, 1)
     }
-    Fault::Version(1, 1)
 }
 
 // inner: the first fault inside one file, as a fault of the batch
+#[tactic(auto, unfolding(fault::specs::Answers::numbered_fault, fields::specs::Check::numbered_checked))]
 pub fn checked_fault(c: Checked) -> Fault
     ensures { numbered_fault result ≡ numbered_checked c }
 {
@@ -81,12 +78,5 @@ pub fn checked_fault(c: Checked) -> Fault
 pub fn is_right_version(s: &[u8]) -> bool
     ensures { result ≡ true → RightVersion s.now }
 {
-    if s.len() > LONGEST {
-        return false;
-    }
-    let fault = outcome_fault(1, read(s, 1));
-    if !is_none(fault) {
-        return false;
-    }
-    is_none(version_fault(s))
+    s.len() <= LONGEST && is_none(outcome_fault(1, read(s, 1))) && is_none(version_fault(s))
 }

@@ -4,11 +4,16 @@
 ghost use Rattle.std.specs.Prelude.{◌≡◌, ◌≤◌, length, take};
 ghost use Rattle.loading.specs.Reached.{Reached};
 
-use loading::{Filled, read_file};
+use loading::read_file;
 use std::rt::Files;
 
-// inner: reads the file of this number, by its name
-pub fn read_numbered(rt: &(impl Files + Eprint), file: usize, buf: &mut [u8], at: usize) -> Filled
+// inner: reads the file of this number, by its name, as `read_file` does
+pub fn read_numbered(
+    rt: &(impl Files + Eprint),
+    file: usize,
+    buf: &mut [u8],
+    at: usize,
+) -> Option<usize>
     requires { at ≤ length buf.old }
     ensures { Reached at (length buf.old) result × (take at buf.new ≡ take at buf.old) }
 {

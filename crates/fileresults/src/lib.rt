@@ -6,7 +6,7 @@ ghost use Rattle.std.specs.Prelude.{◌≡◌};
 ghost use Rattle.file.specs.Answers.{numbered};
 ghost use Rattle.fileresults.specs.Results.{refused_place, RecordsGives, StretchGives, WriteGives};
 
-use file::{Counted, Refusal, Stretch, Written};
+use file::Refusal;
 
 // Which of document 01's refusals, and where.
 #[derive(Clone, Copy)]
@@ -89,7 +89,7 @@ pub fn records(file: u64, bytes: &[u8]) -> RecordsResult
     ensures { RecordsGives file bytes.now result }
 {
     match reader::records(file, bytes) {
-        Counted::Records(k) => RecordsResult {
+        Ok(k) => RecordsResult {
             number: 0,
             file: 0,
             record: 0,
@@ -97,7 +97,7 @@ pub fn records(file: u64, bytes: &[u8]) -> RecordsResult
             offset: 0,
             records: k,
         },
-        Counted::Refused(why) => {
+        Err(why) => {
             let p = place_of(why);
             RecordsResult {
                 number: p.number,
@@ -116,16 +116,16 @@ pub fn stretch(file: u64, bytes: &[u8], row: u64, field: u64) -> StretchResult
     ensures { StretchGives file bytes.now row field result }
 {
     match reader::stretch_of(file, bytes, row, field) {
-        Stretch::At(start, length) => StretchResult {
+        Ok(part) => StretchResult {
             number: 0,
             file: 0,
             record: 0,
             field: 0,
             offset: 0,
-            start,
-            length,
+            start: part.start,
+            length: part.size,
         },
-        Stretch::Refused(why) => {
+        Err(why) => {
             let p = place_of(why);
             StretchResult {
                 number: p.number,
@@ -145,11 +145,11 @@ pub fn write(file: u64, field: u64, text: &[u8], buffer: &mut [u8], place: u64) 
     ensures { WriteGives file field text.now buffer.old place (result, buffer.new) }
 {
     match writer::write(file, field, text, buffer, place) {
-        Written::Next(next) => WriteResult {
+        Ok(next) => WriteResult {
             number: 0,
             place: next,
         },
-        Written::Refused(why) => {
+        Err(why) => {
             let p = place_of(why);
             WriteResult {
                 number: p.number,

@@ -1,4 +1,5 @@
 -- What is found by rank is what is found by key.
+use Rattle.std.specs.Prelude.{None, Some}
 use mathlib.Core.Path.{◌≡◌, sym, ap, ◌∙◌}
 use mathlib.Core.Bool.{false}
 use mathlib.Core.List.{List, [], ◌∷◌}
@@ -11,7 +12,6 @@ use Rattle.laws.specs.Tests.{either}
 use Rattle.file.specs.Files.{fields_of}
 use Rattle.file.specs.Format.{Fields}
 use Rattle.file.specs.Records.{records_in}
-use Rattle.walk.specs.declared.Found.TheVariants.{At, Nothing}
 use Rattle.lines.specs.Order.{first_ranked, has_rank}
 use Rattle.lines.proofs.OrderLaws.{back_hit, back_miss, back_none}
 use Rattle.keys.specs.Keys.{key_fields, key_of, none, has, first_with}
@@ -61,13 +61,13 @@ module _ (file : ℕ) (s : List ℕ) (at : ℕ) (f : KeyFile file s) (q : PlaceI
       has_rank_lem file key f.keyed (here_small file s at here) (key_size file (record_at file s at)) p.past (keys_past file s at f p)
       ∙ ap (λ (x : ℕ). has_rank (rank_of file) x p.past) (sym i.rank)
 
-  pub back_at : (first : ℕ) → At first ≡ first_ranked (rank_of file) (rank_key k) 0 (records_in (fields_of file) s) → (p : PlaceIn file s at)
+  pub back_at : (first : ℕ) → Some first ≡ first_ranked (rank_of file) (rank_key k) 0 (records_in (fields_of file) s) → (p : PlaceIn file s at)
       → ltb first at ≡ has file (key_of file (record_at file s at)) p.past
   back_at first e p =
       either (ltb first at)
       (λ t. t ∙ sym (look_back p ∙ back_hit (fields_of file) (rank_of file) s at (rank_key k) first p (sym e) (ltb-true first at t)))
       (λ t. t ∙ sym (look_back p ∙ back_miss (fields_of file) (rank_of file) s at (rank_key k) first p (sym e) (ltb-false first at t)))
 
-  pub back_nothing : Nothing ≡ first_ranked (rank_of file) (rank_key k) 0 (records_in (fields_of file) s) → (p : PlaceIn file s at)
+  pub back_nothing : None ≡ first_ranked (rank_of file) (rank_key k) 0 (records_in (fields_of file) s) → (p : PlaceIn file s at)
       → false ≡ has file (key_of file (record_at file s at)) p.past
   back_nothing e p = sym (look_back p ∙ back_none (fields_of file) (rank_of file) s at (rank_key k) p (sym e))

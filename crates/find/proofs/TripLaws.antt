@@ -1,5 +1,6 @@
 -- The record of a trip that is next in key order: the least third number as a pass over the records finds it, and as the record with the
 -- least rank from some rank on shows it.
+use Rattle.std.specs.Prelude.{None, Some}
 use mathlib.Core.Path.{◌≡◌, refl, sym, ap, ◌∙◌}
 use mathlib.Core.Bool.{Bool, true, false}
 use mathlib.Core.List.{List, [], ◌∷◌, ◌++◌}
@@ -12,7 +13,6 @@ use Rattle.laws.specs.Tests.{pick, both, either, clash, both_left, both_right}
 use Rattle.file.specs.Files.{fields_of}
 use Rattle.file.specs.Format.{Fields, written_record}
 use Rattle.file.specs.Records.{records_in}
-use Rattle.walk.specs.declared.Found.TheVariants.{At, Nothing}
 use Rattle.walk.proofs.WalkLaws.{none_left}
 use Rattle.lines.specs.Lines.{behind}
 use Rattle.lines.specs.Order.{first_ranked, first_from, Above, Rising}
@@ -43,7 +43,7 @@ three_fields file k e =
     keyed_three file past k.1 (λ z. omega (arith, ap length (keyed_nine file z)))
 
 -- the lesser of two numbers, as a difference
-lesser_is : (a b : ℕ) → lesser a b ≡ a - (a - b)
+pub lesser_is : (a b : ℕ) → lesser a b ≡ a - (a - b)
 lesser_is a b =
     either (leb a b)
     (λ t. rw t (omega (arith, leb-true a b t)))
@@ -108,19 +108,19 @@ module _ (file line trip : ℕ) (three : key_fields file ≡ 1 ∷ 2 ∷ 3 ∷ [
       (λ t. rw (t, key_not_of_trip (eqb-false k.hi (line * none + trip) t)))
 
 -- The record at a place, if it is one of the trip's.
-pub trip_end : (file line trip : ℕ) (s : List ℕ) (at : ℕ) → length s ≤ at → trip_at file line trip s at ≡ Nothing
+pub trip_end : (file line trip : ℕ) (s : List ℕ) (at : ℕ) → length s ≤ at → trip_at file line trip s at ≡ None
 unfolding trip_at
 trip_end file line trip s at h = rw (le-ltb at (length s) h)
 
 module _ (file line trip : ℕ) (s : List ℕ) (at : ℕ) (f : KeyFile file s) (count : length (key_fields file) ≡ 3) (small : trip < none) (p : PlaceIn file s at)
     (h : at < length s) (k : Key) (i : KeyIs (rank_of file (record_at file s at)) k) where
-  pub trip_here : k.hi ≡ line * none + trip → trip_at file line trip s at ≡ At at
+  pub trip_here : k.hi ≡ line * none + trip → trip_at file line trip s at ≡ Some at
   unfolding trip_at
   trip_here e =
       let n = (key_here file s at f p h).numbers in
       rw (lt-ltb at (length s) h, key_of_trip file line trip (three_fields file f.keyed count) small (record_at file s at) n k i e)
 
-  pub trip_other : (k.hi ≡ line * none + trip → ⊥) → trip_at file line trip s at ≡ Nothing
+  pub trip_other : (k.hi ≡ line * none + trip → ⊥) → trip_at file line trip s at ≡ None
   unfolding trip_at
   trip_other e =
       let n = (key_here file s at f p h).numbers in
@@ -188,7 +188,7 @@ module _ (file line trip x : ℕ) where
       sym (lesser_left least none p.most) ∙ ap (lesser least) (sym g) ∙ p.same
 
   -- what the least number says of the record
-  pub next_nothing : (rs : List Fields) → next_number file line trip x rs ≡ none → next_of file line trip x rs ≡ Nothing
+  pub next_nothing : (rs : List Fields) → next_number file line trip x rs ≡ none → next_of file line trip x rs ≡ None
   unfolding next_of
   next_nothing rs e = rw (eq-eqb (next_number file line trip x rs) none e)
 
@@ -219,7 +219,7 @@ From file x m (r ∷ rs) = (x ≤ rank_of file r → m ≤ rank_of file r) × Fr
 pub record Leads (file : ℕ) (s : List ℕ) (x p : ℕ) : Type 0 where
   pub place : p < length s → PlaceIn file s p
   pub rank : p < length s → x ≤ rank_of file (record_at file s p)
-  pub first : p < length s → first_ranked (rank_of file) (rank_of file (record_at file s p)) 0 (records_in (fields_of file) s) ≡ At p
+  pub first : p < length s → first_ranked (rank_of file) (rank_of file (record_at file s p)) 0 (records_in (fields_of file) s) ≡ Some p
   pub least : (m : ℕ) → (p < length s → m ≤ rank_of file (record_at file s p)) → From file x m (records_in (fields_of file) s)
 
 -- a record at a place, and the place behind it
@@ -341,13 +341,13 @@ module _ (file line trip x : ℕ) (s : List ℕ) (p : ℕ) (f : KeyFile file s) 
 
   -- no rank of the trip is from x on
   leads_none : (p < length s → (line * none + trip) * none + none ≤ rank_of file (record_at file s p))
-      → next_of file line trip x (records_in (fields_of file) s) ≡ Nothing
+      → next_of file line trip x (records_in (fields_of file) s) ≡ None
   leads_none h =
       let rs = records_in (fields_of file) s in
       let z = next_low file line trip x three none (omega arith) rs (l.least ((line * none + trip) * none + none) h) in
       next_nothing file line trip x rs (omega (arith, z, next_most file line trip x rs))
 
-  leads_here : p < length s → of_trip file line trip (record_at file s p) ≡ true → next_of file line trip x (records_in (fields_of file) s) ≡ At p
+  leads_here : p < length s → of_trip file line trip (record_at file s p) ≡ true → next_of file line trip x (records_in (fields_of file) s) ≡ Some p
   unfolding rank
   leads_here h t =
       let rs = records_in (fields_of file) s in

@@ -1,8 +1,6 @@
 -- What is known of a file and of the part of the hint that was lent for it, when its records are looked for.
-use Rattle.std.specs.Prelude.{ℕ, ◌<◌, ◌≡◌, Bool, true, List, length, ltb}
+use Rattle.std.specs.Prelude.{ℕ, ◌<◌, ◌≡◌, Bool, true, List, length, ltb, None, Option, Some}
 use Rattle.laws.specs.Tests.{pick, both}
-use Rattle.walk.specs.declared.Found.{Found}
-use Rattle.walk.specs.declared.Found.TheVariants.{At, Nothing}
 use Rattle.keys.specs.Keys.{key_fields, of_trip}
 use Rattle.keys.specs.Ranks.{record_at}
 use Rattle.keys.specs.KeyFiles.{KeyFile, KeysRise, PlaceIn, IsIndex}
@@ -20,5 +18,5 @@ pub record Asks (file : ℕ) (s : List ℕ) (rises : Bool) (part : List ℕ) (la
   pub numbers : length (key_fields file) ≡ count
 
 -- the record at a place, if it is one of the trip's
-unfoldable pub trip_at : ℕ → ℕ → ℕ → List ℕ → ℕ → Found
-trip_at file line trip s at = pick (both (ltb at (length s)) (of_trip file line trip (record_at file s at))) (At at) Nothing
+unfoldable pub trip_at : ℕ → ℕ → ℕ → List ℕ → ℕ → Option ℕ
+trip_at file line trip s at = pick (both (ltb at (length s)) (of_trip file line trip (record_at file s at))) (Some at) None

@@ -14,12 +14,11 @@ ghost use Rattle.find.specs.Find.{Serves, Asks};
 use keys::{Key, key_at};
 use search::{among_rising, at_entry, by_search};
 use seek::lower;
-use walk::Found;
 
 // What was found, and the entry of the index that led to it: the next search looks there first, and nothing is promised of it.
 #[derive(Clone, Copy)]
 pub struct Hit {
-    pub found: Found,
+    pub found: Option<usize>,
     pub entry: usize,
 }
 
@@ -46,7 +45,7 @@ fn first_ranked(
         let entry = lower(file, s, part, k, near);
         return Hit {
             found: at_entry(file, s, part, k, entry),
-            entry: entry,
+            entry,
         };
     }
     Hit {
@@ -85,18 +84,11 @@ pub fn with_two(
     requires { Asks file s.now rises part.now last 2 × (a < none) × (b < none) }
     ensures { result.found ≡ first_with file (a ∷ b ∷ []) 0 (records_in (fields_of file) s.now) }
 {
-    first_ranked(
-        file,
-        s,
-        rises,
-        part,
-        last,
-        near,
-        Key {
-            hi: a * 1000000000 + b,
-            lo: 0,
-        },
-    )
+    let k = Key {
+        hi: a * 1000000000 + b,
+        lo: 0,
+    };
+    first_ranked(file, s, rises, part, last, near, k)
 }
 
 // inner: the numbers a, b and c
@@ -109,21 +101,13 @@ pub fn with_three(
     a: u64,
     b: u64,
     c: u64,
-) -> Found
+) -> Option<usize>
     requires { Asks file s.now rises part.now last 3 × (a < none) × (b < none) × (c < none) }
     ensures { result ≡ first_with file (a ∷ b ∷ c ∷ []) 0 (records_in (fields_of file) s.now) }
 {
     let hi = a * 1000000000 + b;
-    let hit = first_ranked(
-        file,
-        s,
-        rises,
-        part,
-        last,
-        part.len(),
-        Key { hi: hi, lo: c },
-    );
-    hit.found
+    let k = Key { hi, lo: c };
+    first_ranked(file, s, rises, part, last, part.len(), k).found
 }
 
 // inner: whether a record before the one that starts at `at` has its key
@@ -132,9 +116,8 @@ pub fn used_before(file: u64, s: &[u8], rises: bool, part: &[u32], at: usize) ->
     ensures { (p : PlaceIn file s.now at) → result ≡ has file (key_of file (record_at file s.now at)) p.past }
 {
     let hit = first_ranked(file, s, rises, part, at, part.len(), key_at(file, s, at));
-    let found = hit.found;
-    match found {
-        Found::At(first) => first < at,
-        Found::Nothing => false,
+    match hit.found {
+        Some(first) => first < at,
+        None => false,
     }
 }

@@ -97,9 +97,9 @@ pub record Hinted (b : Batch) (file : ℕ) (s part : List ℕ) : Type 0 where
 positive : (part : List ℕ) → (length part ≡ 0 → ⊥) → 0 < length part
 positive part some = omega (arith, some)
 
-pub hinted : (b : Batch) (file : ℕ) (s order ways last class part : List ℕ) → 2 ≤ file → file ≤ 10 → Known b file order ways last class
+pub hinted : (b : Batch) (file : ℕ) (s order ways last part : List ℕ) → 2 ≤ file → file ≤ 10 → Known b file order ways last
     → s ≡ file_in b file → how_of ways file ≡ 2 → part ≡ part_of order (from_of ways file) (to_of ways file) → (length part ≡ 0 → ⊥) → Hinted b file s part
-hinted b file s order ways last class part low high q e how d some =
+hinted b file s order ways last part low high q e how d some =
     let w = q.looks.routes file (low, high) in
     let a : apart (how_of ways file) ≡ true = rw how in
     let m : 0 < length (part_of order (from_of ways file) (to_of ways file)) = rw d at (positive part some) in
@@ -140,8 +140,8 @@ module _ (b : Batch) (file : ℕ) (s part : List ℕ) (i : ℕ) (q : Hinted b fi
     c = subst (λ (m : ℕ). Cuts m s (get_or part i 0) old places next) fields d
 
     -- what is known of it then: its fields are of their kinds
-    pub entry_known : (order ways last class new : List ℕ) → Known b file order ways last class → Lasts b new → Record b file s places order ways new class
-    entry_known order ways last class new k m =
+    pub entry_known : (order ways last new : List ℕ) → Known b file order ways last → Lasts b new → Record b file s places order ways new
+    entry_known order ways last new k m =
         let w = q.index.start i h in
         let a : OfKind file s = rw q.same (sound_kinds b file (k.sound file q.keyed.0 (omega (arith, q.keyed.1)))) in
         record { known = later k new m; kinded = cut_kinded file s (get_or part i 0) a w.place w.within c }

@@ -15,20 +15,13 @@ use lines::line_after;
 use ordered::first_from;
 use search::by_search;
 use seek::lower;
-use walk::Found;
 
 // The lesser of `least` and the third number of k, if k is a key of the trip, from x on.
 fn nearer(least: u64, hi: u64, x: u64, k: Key) -> u64
     ensures { result ≡ pick (both (eqb k.hi hi) (leb x k.lo)) (lesser k.lo least) least }
 {
-    if k.hi != hi {
-        return least;
-    }
-    if k.lo < x {
-        return least;
-    }
-    if k.lo <= least {
-        return k.lo;
+    if k.hi == hi && k.lo >= x {
+        return least.min(k.lo);
     }
     least
 }
@@ -49,56 +42,44 @@ fn least_third(file: u64, s: &[u8], line: u64, trip: u64, x: u64) -> u64
 }
 
 // inner: the record at a place, if it is one of the trip's
-pub fn if_of_trip(file: u64, s: &[u8], at: usize, line: u64, trip: u64) -> Found
+pub fn if_of_trip(file: u64, s: &[u8], at: usize, line: u64, trip: u64) -> Option<usize>
     requires { KeyFile file s.now × (length (key_fields file) ≡ 3) × PlaceIn file s.now at × (line < none) × (trip < none) }
     ensures { result ≡ trip_at file line trip s.now at }
 {
-    if at >= s.len() {
-        return Found::Nothing;
+    if at < s.len() && key_at(file, s, at).hi == line * 1000000000 + trip {
+        return Some(at);
     }
-    let k = key_at(file, s, at);
-    if k.hi == line * 1000000000 + trip {
-        return Found::At(at);
-    }
-    Found::Nothing
+    None
 }
 
 // Record by record: first the number, then its record.
-fn next_by_search(file: u64, s: &[u8], line: u64, trip: u64, x: u64) -> Found
+fn next_by_search(file: u64, s: &[u8], line: u64, trip: u64, x: u64) -> Option<usize>
     requires { KeyFile file s.now × (length (key_fields file) ≡ 3) × (line < none) × (trip < none) }
     ensures { result ≡ next_of file line trip x (records_in (fields_of file) s.now) }
 {
     let y = least_third(file, s, line, trip, x);
     if y == 1000000000 {
-        return Found::Nothing;
+        return None;
     }
-    by_search(
-        file,
-        s,
-        Key {
-            hi: line * 1000000000 + trip,
-            lo: y,
-        },
-    )
+    let k = Key {
+        hi: line * 1000000000 + trip,
+        lo: y,
+    };
+    by_search(file, s, k)
 }
 
 // By an index.
-fn next_by_index(file: u64, s: &[u8], order: &[u32], line: u64, trip: u64, x: u64) -> Found
+fn next_by_index(file: u64, s: &[u8], order: &[u32], line: u64, trip: u64, x: u64) -> Option<usize>
     requires { KeyFile file s.now × (length (key_fields file) ≡ 3) × IsIndex file s.now order.now × (line < none) × (trip < none) × (x < none) }
     ensures { result ≡ next_of file line trip x (records_in (fields_of file) s.now) }
 {
-    let i = lower(
-        file,
-        s,
-        order,
-        Key {
-            hi: line * 1000000000 + trip,
-            lo: x,
-        },
-        order.len(),
-    );
+    let k = Key {
+        hi: line * 1000000000 + trip,
+        lo: x,
+    };
+    let i = lower(file, s, order, k, order.len());
     if i >= order.len() {
-        return Found::Nothing;
+        return None;
     }
     if_of_trip(file, s, order[i] as usize, line, trip)
 }
@@ -113,20 +94,16 @@ fn next_below(
     line: u64,
     trip: u64,
     x: u64,
-) -> Found
+) -> Option<usize>
     requires { Asks file s.now rises part.now last 3 × (line < none) × (trip < none) × (x < none) }
     ensures { result ≡ next_of file line trip x (records_in (fields_of file) s.now) }
 {
     if rises {
-        let at = first_from(
-            file,
-            s,
-            last,
-            Key {
-                hi: line * 1000000000 + trip,
-                lo: x,
-            },
-        );
+        let k = Key {
+            hi: line * 1000000000 + trip,
+            lo: x,
+        };
+        let at = first_from(file, s, last, k);
         return if_of_trip(file, s, at, line, trip);
     }
     if part.len() > 0 {
@@ -145,12 +122,12 @@ pub fn next_of_trip(
     line: u64,
     trip: u64,
     x: u64,
-) -> Found
+) -> Option<usize>
     requires { Asks file s.now rises part.now last 3 × (line < none) × (trip < none) }
     ensures { result ≡ next_of file line trip x (records_in (fields_of file) s.now) }
 {
     if x >= 1000000000 {
-        return Found::Nothing;
+        return None;
     }
     next_below(file, s, rises, part, last, line, trip, x)
 }

@@ -27,40 +27,24 @@ struct Numbers {
     third: u64,
 }
 
-// A byte as a number.
-fn wide(b: u8) -> u64
-    ensures { result ≡ b }
-{
-    b as u64
-}
-
 // The digits from `at` on.
 fn number_seen(s: &[u8], at: usize) -> Seen {
     let mut v: u64 = 0;
-    let mut i = at;
-    while i < s.len() {
-        let b = s[i];
-        if b < b'0' {
+    for i in at..s.len() {
+        if !s[i].is_ascii_digit() {
             return Seen { value: v, end: i };
         }
-        if b > b'9' {
-            return Seen { value: v, end: i };
-        }
-        v = v % 100000000 * 10 + wide(b - b'0');
-        i += 1;
+        v = v % 100000000 * 10 + (s[i] - b'0') as u64;
     }
-    Seen { value: v, end: i }
+    Seen {
+        value: v,
+        end: s.len(),
+    }
 }
 
 // The place that is three bytes behind this one, or the end: a field's text stands so far behind the one before.
 fn text_behind(s: &[u8], at: usize) -> usize {
-    if at >= s.len() {
-        return s.len();
-    }
-    if s.len() - at < 3 {
-        return s.len();
-    }
-    at + 3
+    at.saturating_add(3).min(s.len())
 }
 
 // The numbers of the record at this place.
@@ -84,21 +68,14 @@ fn numbers_seen(s: &[u8], at: usize) -> Numbers {
 
 // Whether x comes before y. A file's key may have fewer than three numbers: what follows it counts only where they are the same.
 fn comes_before(x: Numbers, y: Numbers) -> bool {
-    if x.first != y.first {
-        return x.first < y.first;
-    }
-    if x.second != y.second {
-        return x.second < y.second;
-    }
-    x.third < y.third
+    (x.first, x.second, x.third) < (y.first, y.second, y.third)
 }
 
 // Whether the keys of the first records seem to rise.
 fn first_rise(s: &[u8]) -> bool {
     let mut at = 0;
     let mut last = numbers_seen(s, 0);
-    let mut n = 0;
-    while n < FIRST {
+    for _ in 0..FIRST {
         if at >= s.len() {
             return true;
         }
@@ -112,18 +89,13 @@ fn first_rise(s: &[u8]) -> bool {
         }
         last = numbers;
         at = next;
-        n += 1;
     }
     true
 }
 
 // The same of a file, however long it is.
 fn seems_rising(s: &[u8]) -> bool {
-    if s.len() > REACH {
-        let beginning = &s[..REACH];
-        return first_rise(beginning);
-    }
-    first_rise(s)
+    first_rise(&s[..s.len().min(REACH)])
 }
 
 // inner: whether the keys of the files seem to rise, Zastavky to Caskody
@@ -138,29 +110,13 @@ pub fn seem_rising(
     f9: &[u8],
     f10: &[u8],
 ) -> bool {
-    if !seems_rising(f2) {
-        return false;
-    }
-    if !seems_rising(f3) {
-        return false;
-    }
-    if !seems_rising(f4) {
-        return false;
-    }
-    if !seems_rising(f5) {
-        return false;
-    }
-    if !seems_rising(f6) {
-        return false;
-    }
-    if !seems_rising(f7) {
-        return false;
-    }
-    if !seems_rising(f8) {
-        return false;
-    }
-    if !seems_rising(f9) {
-        return false;
-    }
-    seems_rising(f10)
+    seems_rising(f2)
+        && seems_rising(f3)
+        && seems_rising(f4)
+        && seems_rising(f5)
+        && seems_rising(f6)
+        && seems_rising(f7)
+        && seems_rising(f8)
+        && seems_rising(f9)
+        && seems_rising(f10)
 }

@@ -3,7 +3,6 @@
 
 ghost use Rattle.std.specs.Prelude.{◌≡◌, ◌<◌, length, drop};
 ghost use Rattle.file.specs.Files.{fields_of};
-ghost use Rattle.file.specs.Reader.{Classes};
 ghost use Rattle.file.specs.Records.{records_in};
 ghost use Rattle.field.specs.Names.{trip_stops_file};
 ghost use Rattle.keys.specs.Keys.{none};
@@ -18,91 +17,82 @@ ghost use Rattle.halts.specs.Halts.{Nth};
 use byway::onward;
 use calling::first_of;
 use entries::Step;
+use lookup::Paths;
 use steps::step_on;
-use walk::cut;
+use walk::{CutRecord, cut};
 
 // inner: how many stops a trip has
-pub fn count_stops(
-    f8: &[u8],
-    order: &[u32],
-    ways: &[usize],
-    line: u64,
-    trip: u64,
-    class: &[u8; 256],
-) -> u64
-    requires { Ready trip_stops_file f8.now order.now ways.now × (line < none) × (trip < none) × Classes class.now }
+pub fn count_stops(f8: &[u8], paths: Paths, line: u64, trip: u64) -> u64
+    requires { Ready trip_stops_file f8.now paths.order.now paths.ways.now × (line < none) × (trip < none) }
     ensures { result ≡ length (travelled line trip (records_in (fields_of trip_stops_file) f8.now)) }
 {
     let up = trip % 2 == 1;
     let mut places: [usize; 14] = [0; 14];
     let mut n: u64 = 0;
-    let mut step = first_of(f8, order, ways, 0, 0, line, trip);
+    let mut step = first_of(f8, paths, 0, 0, line, trip);
     while step.at < f8.len() {
-        let next = cut(f8, step.at, 10, class, &mut places);
+        let next = cut(f8, step.at, 10, &mut places);
+        let row = CutRecord {
+            bytes: f8,
+            places: &places,
+        };
         n += 1;
-        step = step_on(8, f8, &places, order, ways, step, next, up, line, trip);
+        step = step_on(8, row, paths, step, next, up, line, trip);
     }
     n
 }
 
 // inner: the place of a trip's nth stop in travel order, from 0 on; the end of the file if it has no more
-pub fn nth_stop(
-    n: u64,
-    f8: &[u8],
-    order: &[u32],
-    ways: &[usize],
-    line: u64,
-    trip: u64,
-    class: &[u8; 256],
-) -> usize
-    requires { Ready trip_stops_file f8.now order.now ways.now × (line < none) × (trip < none) × Classes class.now }
+pub fn nth_stop(n: u64, f8: &[u8], paths: Paths, line: u64, trip: u64) -> usize
+    requires { Ready trip_stops_file f8.now paths.order.now paths.ways.now × (line < none) × (trip < none) }
     ensures { Nth f8.now line trip n result }
 {
     let up = trip % 2 == 1;
     let mut places: [usize; 14] = [0; 14];
     let mut i: u64 = 0;
-    let mut step = first_of(f8, order, ways, 0, 0, line, trip);
+    let mut step = first_of(f8, paths, 0, 0, line, trip);
     while step.at < f8.len() {
         if i == n {
             return step.at;
         }
-        let next = cut(f8, step.at, 10, class, &mut places);
+        let next = cut(f8, step.at, 10, &mut places);
+        let row = CutRecord {
+            bytes: f8,
+            places: &places,
+        };
         i += 1;
-        step = step_on(8, f8, &places, order, ways, step, next, up, line, trip);
+        step = step_on(8, row, paths, step, next, up, line, trip);
     }
     step.at
 }
 
 // inner: whether a record with a time comes behind the one at a place, in travel order
-pub fn timed_behind(
-    start: usize,
-    f8: &[u8],
-    order: &[u32],
-    ways: &[usize],
-    line: u64,
-    trip: u64,
-    class: &[u8; 256],
-) -> bool
-    requires { PlaceIn trip_stops_file f8.now start × (start < length f8.now) × Ready trip_stops_file f8.now order.now ways.now × (line < none) × (trip < none) × Classes class.now }
+pub fn timed_behind(start: usize, f8: &[u8], paths: Paths, line: u64, trip: u64) -> bool
+    requires { PlaceIn trip_stops_file f8.now start × (start < length f8.now) × Ready trip_stops_file f8.now paths.order.now paths.ways.now × (line < none) × (trip < none) }
     ensures { result ≡ some timed (drop 1 (left_at trip_stops_file f8.now (goes_up trip) line trip start)) }
 {
     let up = trip % 2 == 1;
     let mut places: [usize; 14] = [0; 14];
-    cut(f8, start, 10, class, &mut places);
+    cut(f8, start, 10, &mut places);
+    let first = CutRecord {
+        bytes: f8,
+        places: &places,
+    };
     let mut step = Step {
-        at: onward(8, f8, &places, order, ways, start, up, line, trip),
+        at: onward(8, first, paths, start, up, line, trip),
         entry: 0,
     };
     while step.at < f8.len() {
-        let next = cut(f8, step.at, 10, class, &mut places);
-        let v = course::visit_of(f8, &places);
-        if v.arrives {
+        let next = cut(f8, step.at, 10, &mut places);
+        let row = CutRecord {
+            bytes: f8,
+            places: &places,
+        };
+        let v = course::visit_of(row);
+        if v.arrives || v.departs {
             return true;
         }
-        if v.departs {
-            return true;
-        }
-        step = step_on(8, f8, &places, order, ways, step, next, up, line, trip);
+        step = step_on(8, row, paths, step, next, up, line, trip);
     }
     false
 }

@@ -2,7 +2,7 @@
 // it may hold anything, it is looked at once, and no answer depends on it. All of it is inner.
 #![tactic(auto)]
 
-ghost use Rattle.std.specs.Prelude.{◌≡◌, true, ◌≤◌, ◌<◌, ◌^◌, length};
+ghost use Rattle.std.specs.Prelude.{◌≡◌, true, ◌<◌, ◌^◌, length};
 ghost use Rattle.file.specs.Files.{fields_of};
 ghost use Rattle.file.specs.Records.{records_in};
 ghost use Rattle.keys.specs.Keys.{none};
@@ -19,13 +19,7 @@ fn is_start(file: u64, s: &[u8], x: usize) -> bool
     requires { KeyFile file s.now × (x < 2 ^ 32) }
     ensures { result ≡ true → Start (fields_of file) (rank_of file) s.now x }
 {
-    if x >= s.len() {
-        return false;
-    }
-    if x == 0 {
-        return true;
-    }
-    s[x - 1] == 10
+    x < s.len() && (x == 0 || s[x - 1] == b'\n')
 }
 
 // How a record with key k at x goes behind one with key j at w: 0 if it doesn't, 1 with the same key, 2 with one above.
@@ -45,22 +39,12 @@ fn step(j: Key, w: usize, k: Key, x: usize) -> usize
     0
 }
 
-// The lesser of two.
-fn lesser(a: usize, b: usize) -> usize
-    ensures { (result ≤ a) × (result ≤ b) }
-{
-    if a < b {
-        return a;
-    }
-    b
-}
-
 // inner: looks at a list once. As many entries as records, each where a record starts, no two the same: so none is missing
 pub fn look_at(file: u64, s: &[u8], order: &[u32]) -> usize
     requires { KeyFile file s.now × (length order.now ≡ length (records_in (fields_of file) s.now)) }
     ensures { Looked file s.now order.now result }
 {
-    if order.len() == 0 {
+    if order.is_empty() {
         return 2;
     }
     let mut was = order[0] as usize;
@@ -68,14 +52,10 @@ pub fn look_at(file: u64, s: &[u8], order: &[u32]) -> usize
         return 0;
     }
     let mut last = key_at(file, s, was);
-    let mut kind = 2;
-    let mut i = 1;
-    while i < order.len() {
-        if !list_goes_on(s, order, i) {
-            return 0;
-        }
+    let mut kind: usize = 2;
+    for i in 1..order.len() {
         let x = order[i] as usize;
-        if !is_start(file, s, x) {
+        if !list_goes_on(s, order, i) || !is_start(file, s, x) {
             return 0;
         }
         let k = key_at(file, s, x);
@@ -83,10 +63,9 @@ pub fn look_at(file: u64, s: &[u8], order: &[u32]) -> usize
         if how == 0 {
             return 0;
         }
-        kind = lesser(kind, how);
+        kind = kind.min(how);
         was = x;
         last = k;
-        i += 1;
     }
     kind
 }

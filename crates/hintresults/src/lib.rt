@@ -20,6 +20,7 @@ pub struct HintResult {
 }
 
 // inner: document 01's number, place and value of an answer.
+#[tactic(auto, using(crate::proofs::RefusedLaws::refused_hint), unfolding(arrange::specs::Hint::numbered_hint, crate::specs::Results::hint_result))]
 pub fn hint_handed(answer: Arranged) -> HintResult
     ensures { result ≡ hint_result (numbered_hint answer) }
 {

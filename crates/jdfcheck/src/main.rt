@@ -8,7 +8,7 @@ ghost use Rattle.laws.specs.Splice.{splice};
 ghost use Rattle.buffer.specs.Buffer.{Stand, parts_of};
 ghost use Rattle.wording.specs.Line.{program_line};
 
-use buffer::{gather, part};
+use buffer::{gather, parts};
 use std::io;
 use together::MOST;
 use wording::program_line;
@@ -17,26 +17,12 @@ use wording::program_line;
 const SPACE: usize = MOST + 1;
 
 // The line of what was read.
-fn line<'a>(buf: &'a [u8], ends: &[usize; 14], d: &mut [u8]) -> usize
+fn line(buf: &[u8], ends: &[usize; 14], d: &mut [u8]) -> usize
     requires { Stand 13 (length buf.now) ends.now × (134 ≤ length d.old) }
     ensures { (d.new ≡ splice d.old 0 (program_line (parts_of buf.now ends.now))) × (result ≡ length (program_line (parts_of buf.now ends.now))) × (result ≤ 134) }
 {
-    program_line(
-        part(buf, ends, 1),
-        part(buf, ends, 2),
-        part(buf, ends, 3),
-        part(buf, ends, 4),
-        part(buf, ends, 5),
-        part(buf, ends, 6),
-        part(buf, ends, 7),
-        part(buf, ends, 8),
-        part(buf, ends, 9),
-        part(buf, ends, 10),
-        part(buf, ends, 11),
-        part(buf, ends, 12),
-        part(buf, ends, 13),
-        d,
-    )
+    let files = parts(buf, ends);
+    program_line(&files, d)
 }
 
 // Reads, judges and writes the line. A file that can't be read is reported by then, and no line follows.

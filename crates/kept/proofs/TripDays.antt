@@ -1,4 +1,5 @@
 -- Refusal 10 over a batch: a trip's signs and time codes in its line's view fit exactly if the records of the batch keep document 01's rules.
+use Rattle.std.specs.Prelude.{None, Option, Some}
 use mathlib.Core.Path.{◌≡◌, refl, sym, ap, ◌∙◌}
 use mathlib.Core.Bool.{true, false}
 use mathlib.Core.List.{List, [], ◌∷◌, ◌++◌}
@@ -14,8 +15,6 @@ use Rattle.file.specs.Format.{Fields}
 use Rattle.signs.specs.Signs.{is_day_sign}
 use Rattle.field.specs.Values.{is_empty}
 use Rattle.field.specs.Names.{field}
-use Rattle.walk.specs.declared.Found.{Found}
-use Rattle.walk.specs.declared.Found.TheVariants.{At, Nothing}
 use Rattle.keys.specs.Keys.{first_with, of_trip, third}
 use Rattle.keys.proofs.KeyLaws.{has_found}
 use Rattle.thirteen.specs.Batch.{Batch, records_of}
@@ -134,9 +133,9 @@ sign_or : (b : Batch) (c : ℕ) → Sign b c (sign_of b c) ⊎ (sign_of b c ≡ 
 unfolding sign_of
 sign_or b c = go (first_with 3 (c ∷ []) 0 (records_of b 3)) refl
   where
-    go : (w : Found) → first_with 3 (c ∷ []) 0 (records_of b 3) ≡ w → Sign b c (sign_of b c) ⊎ (sign_of b c ≡ 0)
-    go (At p) e = inl (reached_sign b c (has_reaches b 3 (c ∷ []) (has_found 3 (c ∷ []) 0 (records_of b 3) p e)))
-    go Nothing e = inr (sign_none c 0 (records_of b 3) e)
+    go : (w : Option ℕ) → first_with 3 (c ∷ []) 0 (records_of b 3) ≡ w → Sign b c (sign_of b c) ⊎ (sign_of b c ≡ 0)
+    go (Some p) e = inl (reached_sign b c (has_reaches b 3 (c ∷ []) (has_found 3 (c ∷ []) 0 (records_of b 3) p e)))
+    go None e = inr (sign_none c 0 (records_of b 3) e)
 
 -- and 0 is no day sign
 no_day : (x : ℕ) → x ≡ 0 → is_day_sign x ≡ false

@@ -1,5 +1,6 @@
 -- Keys and their ranks: keys of one size have one rank exactly if they are one key, and the order of ranks is that of the first number,
 -- then the second, then the third. The records of a trip are those whose rank lies in its stretch.
+use Rattle.std.specs.Prelude.{None, Some}
 use mathlib.Core.Path.{◌≡◌, refl, sym, ap, ◌∙◌}
 use mathlib.Core.Bool.{Bool, true, false}
 use mathlib.Core.List.{List, [], ◌∷◌, ◌++◌}
@@ -18,7 +19,6 @@ use Rattle.field.specs.Names.{field}
 use Rattle.field.proofs.ValueLaws.{digits_bound}
 use Rattle.walk.specs.Walk.{RecordAt}
 use Rattle.walk.proofs.WalkLaws.{count_left, some_left}
-use Rattle.walk.specs.declared.Found.TheVariants.{At, Nothing}
 use Rattle.keys.specs.Keys.{key_fields, numbers, key_of, same, has, first_with, of_trip, third, none}
 use Rattle.keys.specs.Ranks.{rank, rank_of, Numbers, AllKeyed, Small, IsKeyed, KeyAt}
 use Rattle.keys.proofs.TableLaws.{one_of_lem, key_fields_lem}
@@ -180,23 +180,23 @@ module _ (file line trip : ℕ) (r : Fields) (three : key_fields file ≡ 1 ∷ 
       trip_same ∙ rw (eq-eqb (value (field 1 r)) line a, eq-eqb (value (field 2 r)) trip b)
 
 -- a record is found exactly if one has the key
-pub has_found : (file : ℕ) (k : List ℕ) (at : ℕ) (rs : List Fields) (p : ℕ) → first_with file k at rs ≡ At p → has file k rs ≡ true
+pub has_found : (file : ℕ) (k : List ℕ) (at : ℕ) (rs : List Fields) (p : ℕ) → first_with file k at rs ≡ Some p → has file k rs ≡ true
 unfolding has first_with
 has_found file k at [] p e = let z : ◌≡◌ {A = ℕ} 0 1 = cc in absurd (omega arith)
 has_found file k at (r ∷ rs) p e = go (same (key_of file r) k) e (λ z. has_found file k (at + length (written_record r)) rs p z)
   where
-    go : (t : Bool) → pick t (At at) (first_with file k (at + length (written_record r)) rs) ≡ At p
-        → (first_with file k (at + length (written_record r)) rs ≡ At p → has file k rs ≡ true) → one_of t (has file k rs) ≡ true
+    go : (t : Bool) → pick t (Some at) (first_with file k (at + length (written_record r)) rs) ≡ Some p
+        → (first_with file k (at + length (written_record r)) rs ≡ Some p → has file k rs ≡ true) → one_of t (has file k rs) ≡ true
     go true z f = refl
     go false z f = f z
 
-pub has_none : (file : ℕ) (k : List ℕ) (at : ℕ) (rs : List Fields) → first_with file k at rs ≡ Nothing → has file k rs ≡ false
+pub has_none : (file : ℕ) (k : List ℕ) (at : ℕ) (rs : List Fields) → first_with file k at rs ≡ None → has file k rs ≡ false
 unfolding has first_with
 has_none file k at [] e = refl
 has_none file k at (r ∷ rs) e = go (same (key_of file r) k) e (λ z. has_none file k (at + length (written_record r)) rs z)
   where
-    go : (t : Bool) → pick t (At at) (first_with file k (at + length (written_record r)) rs) ≡ Nothing
-        → (first_with file k (at + length (written_record r)) rs ≡ Nothing → has file k rs ≡ false) → one_of t (has file k rs) ≡ false
+    go : (t : Bool) → pick t (Some at) (first_with file k (at + length (written_record r)) rs) ≡ None
+        → (first_with file k (at + length (written_record r)) rs ≡ None → has file k rs ≡ false) → one_of t (has file k rs) ≡ false
     go true z f = let y : ◌≡◌ {A = ℕ} 0 1 = cc in absurd (omega arith)
     go false z f = f z
 

@@ -1,12 +1,10 @@
 -- Document 01, "The batch": the key fields of each file, and the record that has a key. Keys compare numbers by value, so `01` and `1` are
 -- one.
-use Rattle.std.specs.Prelude.{ℕ, ◌+◌, List, [], ◌∷◌, Bool, true, false, eqb, leb, get_or, length, take}
+use Rattle.std.specs.Prelude.{ℕ, ◌+◌, List, [], ◌∷◌, Bool, true, false, eqb, leb, get_or, length, take, None, Option, Some}
 use Rattle.laws.specs.Tests.{pick, both, one_of}
 use Rattle.file.specs.Format.{Fields, written_record}
 use Rattle.field.specs.Values.{value}
 use Rattle.field.specs.Names.{field}
-use Rattle.walk.specs.declared.Found.{Found}
-use Rattle.walk.specs.declared.Found.TheVariants.{At, Nothing}
 
 -- the table's column "key", from file 0 on: there is no file 0, and files 1, 11, 12 and 13 have no key
 unfoldable pub key_table : List (List ℕ)
@@ -53,9 +51,9 @@ has file k [] = false
 has file k (r ∷ rs) = one_of (same (key_of file r) k) (has file k rs)
 
 -- the place of the first record that has it, where the first of these stands at `at`
-unfoldable pub first_with : ℕ → List ℕ → ℕ → List Fields → Found
-first_with file k at [] = Nothing
-first_with file k at (r ∷ rs) = pick (same (key_of file r) k) (At at) (first_with file k (at + length (written_record r)) rs)
+unfoldable pub first_with : ℕ → List ℕ → ℕ → List Fields → Option ℕ
+first_with file k at [] = None
+first_with file k at (r ∷ rs) = pick (same (key_of file r) k) (Some at) (first_with file k (at + length (written_record r)) rs)
 
 -- The records of one trip: those whose key begins with its line and its number. They are told apart by the third number of their key.
 unfoldable pub of_trip : ℕ → ℕ → ℕ → Fields → Bool
@@ -80,8 +78,8 @@ next_number file line trip x (r ∷ rs) =
     (next_number file line trip x rs)
 
 -- the place of the trip's record that is next in key order, from third number x on
-unfoldable pub next_of : ℕ → ℕ → ℕ → ℕ → List Fields → Found
+unfoldable pub next_of : ℕ → ℕ → ℕ → ℕ → List Fields → Option ℕ
 next_of file line trip x rs =
     pick (eqb (next_number file line trip x rs) none)
-    Nothing
+    None
     (first_with file (line ∷ trip ∷ next_number file line trip x rs ∷ []) 0 rs)

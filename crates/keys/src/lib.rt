@@ -22,23 +22,21 @@ struct Number {
 
 // The number whose digits start at `at`.
 fn number_at(s: &[u8], at: usize) -> Number
-    requires { length (digits_from (drop at s.now)) ≤ 9 }
+    requires { (at ≤ length s.now) × (length (digits_from (drop at s.now)) ≤ 9) }
     ensures { NumberIs (digits_from (drop at s.now)) at result.value result.end }
 {
     let mut v: u64 = 0;
-    let mut i = at;
-    while i < s.len() {
-        let b = s[i] as u64;
-        if b < 48 {
+    for i in at..s.len() {
+        let b = s[i];
+        if b < b'0' || b > b'9' {
             return Number { value: v, end: i };
         }
-        if b > 57 {
-            return Number { value: v, end: i };
-        }
-        v = v * 10 + (b - 48);
-        i += 1;
+        v = v * 10 + (b - b'0') as u64;
     }
-    Number { value: v, end: i }
+    Number {
+        value: v,
+        end: s.len(),
+    }
 }
 
 // inner: the key of the record that starts at `at`: its first field in files 2 to 5, its first two in files 6, 7 and 9, its first three in files 8
@@ -53,17 +51,11 @@ pub fn key_at(file: u64, s: &[u8], at: usize) -> Key
     }
     let b = number_at(s, a.end + 3);
     let hi = a.value * 1000000000 + b.value;
-    if file < 8 {
-        return Key { hi: hi, lo: 0 };
-    }
-    if file == 9 {
-        return Key { hi: hi, lo: 0 };
+    if file < 8 || file == 9 {
+        return Key { hi, lo: 0 };
     }
     let c = number_at(s, b.end + 3);
-    Key {
-        hi: hi,
-        lo: c.value,
-    }
+    Key { hi, lo: c.value }
 }
 
 // inner: whether x is below y
@@ -82,8 +74,5 @@ pub fn equal(x: Key, y: Key) -> bool
     requires { (x.lo < none) × (y.lo < none) }
     ensures { result ≡ eqb (rank_key x) (rank_key y) }
 {
-    if x.hi != y.hi {
-        return false;
-    }
-    x.lo == y.lo
+    x.hi == y.hi && x.lo == y.lo
 }

@@ -1,9 +1,9 @@
 // The kind of every field: document 01, "Fields", and the tables of 000. A match on the file's number calls a match on the field's
-// number, one function for each file. All of it is inner: what each function means is its definition in `field`, specs/Kinds.antt.
+// number, one function for each file, and one for both Udaje and Mistenky. All of it is inner: what each function means is its definition in `field`, specs/Kinds.antt.
 #![tactic(auto)]
 
 ghost use Rattle.std.specs.Prelude.{◌≡◌, ◌∷◌, get_or};
-ghost use Rattle.field.specs.Kinds.{zastavky, pevnykod, dopravci, linky, spoje, zaslinky, zasspoje, udaje, caskody, altdop, altlinky, mistenky, kind_of};
+ghost use Rattle.field.specs.Kinds.{zastavky, pevnykod, dopravci, linky, spoje, zaslinky, zasspoje, udaje, caskody, altdop, altlinky, kind_of};
 
 use field::Kind;
 
@@ -16,14 +16,14 @@ const LINE: Kind = Kind::Digits(6, 6);
 
 const FIRM_NUMBER: Kind = Kind::Digits(8, 8);
 
+#[tactic(auto, unfolding(field::specs::Kinds::zastavky))]
 fn zastavky_kind(f: u64) -> Kind
     ensures { result ≡ get_or (Kind.None ∷ zastavky) f Kind.None }
 {
     match f {
         1 => NUMBER,
         2 => Kind::Text(1, 48),
-        3 => Kind::Text(0, 48),
-        4 => Kind::Text(0, 48),
+        3 | 4 => Kind::Text(0, 48),
         5 => Kind::Text(0, 3),
         6 => Kind::Text(1, 3),
         7..=12 => CODE,
@@ -31,6 +31,7 @@ fn zastavky_kind(f: u64) -> Kind
     }
 }
 
+#[tactic(auto, unfolding(field::specs::Kinds::pevnykod))]
 fn pevnykod_kind(f: u64) -> Kind
     ensures { result ≡ get_or (Kind.None ∷ pevnykod) f Kind.None }
 {
@@ -42,6 +43,7 @@ fn pevnykod_kind(f: u64) -> Kind
     }
 }
 
+#[tactic(auto, unfolding(field::specs::Kinds::dopravci))]
 fn dopravci_kind(f: u64) -> Kind
     ensures { result ≡ get_or (Kind.None ∷ dopravci) f Kind.None }
 {
@@ -58,6 +60,7 @@ fn dopravci_kind(f: u64) -> Kind
     }
 }
 
+#[tactic(auto, unfolding(field::specs::Kinds::linky))]
 fn linky_kind(f: u64) -> Kind
     ensures { result ≡ get_or (Kind.None ∷ linky) f Kind.None }
 {
@@ -68,14 +71,13 @@ fn linky_kind(f: u64) -> Kind
         4 => Kind::LineType,
         5 => Kind::MaybeDigits(3, 3),
         6 => Kind::Text(0, 48),
-        7 => Kind::MaybeDate,
-        8 => Kind::MaybeDate,
-        9 => Kind::Date,
-        10 => Kind::Date,
+        7 | 8 => Kind::MaybeDate,
+        9 | 10 => Kind::Date,
         _ => Kind::None,
     }
 }
 
+#[tactic(auto, unfolding(field::specs::Kinds::spoje))]
 fn spoje_kind(f: u64) -> Kind
     ensures { result ≡ get_or (Kind.None ∷ spoje) f Kind.None }
 {
@@ -87,6 +89,7 @@ fn spoje_kind(f: u64) -> Kind
     }
 }
 
+#[tactic(auto, unfolding(field::specs::Kinds::zaslinky))]
 fn zaslinky_kind(f: u64) -> Kind
     ensures { result ≡ get_or (Kind.None ∷ zaslinky) f Kind.None }
 {
@@ -100,24 +103,23 @@ fn zaslinky_kind(f: u64) -> Kind
     }
 }
 
+#[tactic(auto, unfolding(field::specs::Kinds::zasspoje))]
 fn zasspoje_kind(f: u64) -> Kind
     ensures { result ≡ get_or (Kind.None ∷ zasspoje) f Kind.None }
 {
     match f {
         1 => LINE,
-        2 => NUMBER,
-        3 => NUMBER,
-        4 => NUMBER,
+        2..=4 => NUMBER,
         5 => Kind::Text(0, 48),
-        6 => CODE,
-        7 => CODE,
+        6 | 7 => CODE,
         8 => Kind::MaybeDigits(1, 9),
-        9 => Kind::Time,
-        10 => Kind::Time,
+        9 | 10 => Kind::Time,
         _ => Kind::None,
     }
 }
 
+// Udaje and Mistenky have the same fields.
+#[tactic(auto, unfolding(field::specs::Kinds::udaje))]
 fn udaje_kind(f: u64) -> Kind
     ensures { result ≡ get_or (Kind.None ∷ udaje) f Kind.None }
 {
@@ -129,22 +131,22 @@ fn udaje_kind(f: u64) -> Kind
     }
 }
 
+#[tactic(auto, unfolding(field::specs::Kinds::caskody))]
 fn caskody_kind(f: u64) -> Kind
     ensures { result ≡ get_or (Kind.None ∷ caskody) f Kind.None }
 {
     match f {
         1 => LINE,
-        2 => NUMBER,
-        3 => NUMBER,
+        2 | 3 => NUMBER,
         4 => Kind::Text(1, 2),
         5 => Kind::CodeType,
-        6 => Kind::MaybeDate,
-        7 => Kind::MaybeDate,
+        6 | 7 => Kind::MaybeDate,
         8 => Kind::Text(0, 254),
         _ => Kind::None,
     }
 }
 
+#[tactic(auto, unfolding(field::specs::Kinds::altdop))]
 fn altdop_kind(f: u64) -> Kind
     ensures { result ≡ get_or (Kind.None ∷ altdop) f Kind.None }
 {
@@ -155,12 +157,12 @@ fn altdop_kind(f: u64) -> Kind
         4..=9 => CODE,
         10 => Kind::WeekType,
         11 => Kind::Text(0, 254),
-        12 => Kind::MaybeDate,
-        13 => Kind::MaybeDate,
+        12 | 13 => Kind::MaybeDate,
         _ => Kind::None,
     }
 }
 
+#[tactic(auto, unfolding(field::specs::Kinds::altlinky))]
 fn altlinky_kind(f: u64) -> Kind
     ensures { result ≡ get_or (Kind.None ∷ altlinky) f Kind.None }
 {
@@ -172,18 +174,8 @@ fn altlinky_kind(f: u64) -> Kind
     }
 }
 
-fn mistenky_kind(f: u64) -> Kind
-    ensures { result ≡ get_or (Kind.None ∷ mistenky) f Kind.None }
-{
-    match f {
-        1 => LINE,
-        2 => NUMBER,
-        3 => Kind::Text(1, 254),
-        _ => Kind::None,
-    }
-}
-
 // inner: the kind of field f, from 1, of a file
+#[tactic(auto, unfolding(field::specs::Kinds::kind_of, field::specs::Kinds::kinds, field::specs::Kinds::udaje, field::specs::Kinds::mistenky))]
 pub fn kind_of(file: u64, f: u64) -> Kind
     ensures { result ≡ kind_of file f }
 {
@@ -195,11 +187,10 @@ pub fn kind_of(file: u64, f: u64) -> Kind
         6 => spoje_kind(f),
         7 => zaslinky_kind(f),
         8 => zasspoje_kind(f),
-        9 => udaje_kind(f),
+        9 | 13 => udaje_kind(f),
         10 => caskody_kind(f),
         11 => altdop_kind(f),
         12 => altlinky_kind(f),
-        13 => mistenky_kind(f),
         _ => Kind::None,
     }
 }

@@ -1,4 +1,5 @@
 -- Where records start, when a list of places is an index, and what an index says of records by rank.
+use Rattle.std.specs.Prelude.{None, Some}
 use Prim.Native.Nat.{ℕ, zero, suc, ◌+◌, ◌-◌, ◌^◌, ◌≤◌, ◌<◌}
 use mathlib.Core.Path.{◌≡◌, refl, sym, ap, subst, ◌∙◌}
 use mathlib.Core.Logic.{inl, inr, ⊎_elim}
@@ -13,7 +14,6 @@ use Rattle.laws.specs.Tests.{either}
 use Rattle.file.specs.Format.{Fields, written_record, written}
 use Rattle.file.specs.Records.{records_in}
 use Rattle.walk.specs.Walk.{LegalFrom}
-use Rattle.walk.specs.declared.Found.TheVariants.{At, Nothing}
 use Rattle.walk.proofs.WalkLaws.{first_record}
 use Rattle.lines.specs.Lines.{behind, Place}
 use Rattle.lines.specs.Order.{first_ranked, has_rank}
@@ -116,7 +116,7 @@ module _ (n : ℕ) (rank : Fields → ℕ) where
 
   -- `first_ranked` by what is known of the places of records
   first_none : (s : List ℕ) (x at : ℕ) (rs : List Fields) → Place n s at → records_in n (drop at s) ≡ rs
-      → ((y : ℕ) → In y (starts_from at rs) → rank_at n rank s y ≡ x → ⊥) → first_ranked rank x at rs ≡ Nothing
+      → ((y : ℕ) → In y (starts_from at rs) → rank_at n rank s y ≡ x → ⊥) → first_ranked rank x at rs ≡ None
   unfolding In starts_from first_ranked
   first_none s x at [] p e none = refl
   first_none s x at (r ∷ rs) p e none =
@@ -126,7 +126,7 @@ module _ (n : ℕ) (rank : Fields → ℕ) where
       (λ t. rw t (first_none s x (at + length (written_record r)) rs w.1.place w.1.left (λ y i. none y (inr i))))
 
   first_least : (s : List ℕ) (x z at : ℕ) (rs : List Fields) → Place n s at → records_in n (drop at s) ≡ rs → In z (starts_from at rs)
-      → rank_at n rank s z ≡ x → ((y : ℕ) → In y (starts_from at rs) → rank_at n rank s y ≡ x → z ≤ y) → first_ranked rank x at rs ≡ At z
+      → rank_at n rank s z ≡ x → ((y : ℕ) → In y (starts_from at rs) → rank_at n rank s y ≡ x → z ≤ y) → first_ranked rank x at rs ≡ Some z
   unfolding In starts_from first_ranked
   first_least s x z at [] p e i h least = absurd i
   first_least s x z at (r ∷ rs) p e i h least =
@@ -197,13 +197,13 @@ module _ (n : ℕ) (rank : Fields → ℕ) where
 
       -- entry m has the rank: it is the first record with it
       pub index_hit : LegalFrom n s 0 → m < length order → rank_at n rank s (get_or order m 0) ≡ x
-          → first_ranked rank x 0 (records_in n s) ≡ At (get_or order m 0)
+          → first_ranked rank x 0 (records_in n s) ≡ Some (get_or order m 0)
       index_hit l p h =
           first_least s x (get_or order m 0) 0 (records_in n s) (place_start n s l) refl (index.start m p).known h
           (λ y q e. omega (arith, h, e, index_from p y q (omega (arith, e))))
 
       -- it has another, or there is no entry m: no record has it
-      pub index_miss : LegalFrom n s 0 → (m < length order → x < rank_at n rank s (get_or order m 0)) → first_ranked rank x 0 (records_in n s) ≡ Nothing
+      pub index_miss : LegalFrom n s 0 → (m < length order → x < rank_at n rank s (get_or order m 0)) → first_ranked rank x 0 (records_in n s) ≡ None
       index_miss l above =
           first_none s x 0 (records_in n s) (place_start n s l) refl
           (λ y q e.
@@ -227,4 +227,4 @@ module _ (n : ℕ) (rank : Fields → ℕ) where
       let below : (i : ℕ) → i < w.0 → rank_at n rank s (get_or order i 0) < x =
       λ i k. omega (arith, e, climb (rank_at n rank s) order up i w.0 k w.1) in
       let f = index_hit s order x index w.0 below l w.1 e in
-      back_miss n rank s at x at q (f ∙ ap (λ (y : ℕ). At y) w.2) (omega arith)
+      back_miss n rank s at x at q (f ∙ ap (λ (y : ℕ). Some y) w.2) (omega arith)

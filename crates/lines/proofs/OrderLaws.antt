@@ -1,4 +1,5 @@
 -- Laws of records by rank: what a test of one record says of those left, what ranks that rise add, and what stands before a place.
+use Rattle.std.specs.Prelude.{None, Some}
 use mathlib.Core.Path.{◌≡◌, refl, sym, ap, ◌∙◌}
 use mathlib.Core.Bool.{true, false}
 use mathlib.Core.List.{List, [], ◌∷◌, ◌++◌}
@@ -11,7 +12,6 @@ use Rattle.laws.specs.Tests.{either, never}
 use Rattle.file.specs.Format.{Fields, written_record, written, Permitted}
 use Rattle.file.specs.Records.{records_in}
 use Rattle.walk.specs.Walk.{LegalFrom}
-use Rattle.walk.specs.declared.Found.TheVariants.{At, Nothing}
 use Rattle.walk.proofs.WalkLaws.{none_left, first_record}
 use Rattle.lines.specs.Lines.{behind, Place, Next}
 use Rattle.lines.specs.Order.{first_ranked, first_from, has_rank, Above, Rising, rises_after, is_rising}
@@ -29,7 +29,7 @@ module _ (rank : Fields → ℕ) where
   above_at k [] b rs h = h.0
   above_at k (r ∷ a) b rs h = above_at k a b rs h.1
 
-  above_none : (k at : ℕ) (rs : List Fields) → Above rank k rs → first_ranked rank k at rs ≡ Nothing
+  above_none : (k at : ℕ) (rs : List Fields) → Above rank k rs → first_ranked rank k at rs ≡ None
   unfolding Above first_ranked
   above_none k at [] h = refl
   above_none k at (r ∷ rs) h = rw (ne_eqb (rank r) k (λ e. omega arith)) (above_none k (at + length (written_record r)) rs h.1)
@@ -41,7 +41,7 @@ module _ (rank : Fields → ℕ) where
   tail_rising (r ∷ a) b h = tail_rising a b h.1
 
   -- a first rank above k: no rank is k
-  rising_none : (k at : ℕ) (r : Fields) (rs : List Fields) → Rising rank (r ∷ rs) → k < rank r → first_ranked rank k at (r ∷ rs) ≡ Nothing
+  rising_none : (k at : ℕ) (r : Fields) (rs : List Fields) → Rising rank (r ∷ rs) → k < rank r → first_ranked rank k at (r ∷ rs) ≡ None
   unfolding Above Rising
   rising_none k at r rs h p = above_none k at (r ∷ rs) (p, above_less k (rank r) rs p h.0)
 
@@ -114,13 +114,13 @@ module _ (rank : Fields → ℕ) where
     size : p ≡ at + length (written past)
     same : rank first ≡ x
 
-  hit : (x at : ℕ) (qs : List Fields) (p : ℕ) → first_ranked rank x at qs ≡ At p → Hit x at qs p
+  hit : (x at : ℕ) (qs : List Fields) (p : ℕ) → first_ranked rank x at qs ≡ Some p → Hit x at qs p
   unfolding first_ranked written
   hit x at [] p e = let z : ◌≡◌ {A = ℕ} 0 1 = cc in absurd (omega arith)
   hit x at (r ∷ rs) p e =
       either (eqb (rank r) x)
       (λ t.
-      let d : At at ≡ At p = rw t at e in
+      let d : Some at ≡ Some p = rw t at e in
       let z : at ≡ p = cc in
       record { past = []; first = r; rest = rs; whole = refl; size = omega arith; same = eqb-true (rank r) x t })
       (λ t. on (hit x (at + length (written_record r)) rs p (rw t at e)))
@@ -182,11 +182,11 @@ module _ (rank : Fields → ℕ) where
       rw (ne_eqb (rank r) x (λ e. omega (arith, h.0)), e) (below_skip x (at + length (written_record r)) a b h.1)
 
   -- what is found stands no earlier than where the search starts
-  not_before : (x at : ℕ) (qs : List Fields) (p : ℕ) → first_ranked rank x at qs ≡ At p → at ≤ p
+  not_before : (x at : ℕ) (qs : List Fields) (p : ℕ) → first_ranked rank x at qs ≡ Some p → at ≤ p
   not_before x at qs p e = omega (arith, (hit x at qs p e).size)
 
   -- a find before the place behind `past` is in it
-  back_in : (x at : ℕ) (past rs : List Fields) (p : ℕ) → first_ranked rank x at (past ++ rs) ≡ At p → p < at + length (written past)
+  back_in : (x at : ℕ) (past rs : List Fields) (p : ℕ) → first_ranked rank x at (past ++ rs) ≡ Some p → p < at + length (written past)
       → has_rank rank x past ≡ true
   unfolding first_ranked has_rank written
   back_in x at [] rs p e h = absurd (omega (arith, not_before x at rs p e))
@@ -196,26 +196,26 @@ module _ (rank : Fields → ℕ) where
       (λ t. rw t (back_in x (at + length (written_record r)) past rs p (rw t at e) (omega (arith, size_cons r past))))
 
   -- a find at that place or later: none is in it
-  back_out : (n : ℕ) → 1 ≤ n → (x at : ℕ) (past rs : List Fields) (p : ℕ) → Permitted n (past ++ rs) → first_ranked rank x at (past ++ rs) ≡ At p
+  back_out : (n : ℕ) → 1 ≤ n → (x at : ℕ) (past rs : List Fields) (p : ℕ) → Permitted n (past ++ rs) → first_ranked rank x at (past ++ rs) ≡ Some p
       → at + length (written past) ≤ p → has_rank rank x past ≡ false
   unfolding first_ranked has_rank written Permitted
   back_out n some x at [] rs p q e h = refl
   back_out n some x at (r ∷ past) rs p q e h =
       either (eqb (rank r) x)
       (λ t.
-      let d : At at ≡ At p = rw t at e in
+      let d : Some at ≡ Some p = rw t at e in
       let z : at ≡ p = cc in
       absurd (omega (arith, size_cons r past, record_size n r some q.0)))
       (λ t. rw t (back_out n some x (at + length (written_record r)) past rs p q.1 (rw t at e) (omega (arith, size_cons r past))))
 
   -- no find at all
-  back_empty : (x at : ℕ) (past rs : List Fields) → first_ranked rank x at (past ++ rs) ≡ Nothing → has_rank rank x past ≡ false
+  back_empty : (x at : ℕ) (past rs : List Fields) → first_ranked rank x at (past ++ rs) ≡ None → has_rank rank x past ≡ false
   unfolding first_ranked has_rank
   back_empty x at [] rs e = refl
   back_empty x at (r ∷ past) rs e =
       either (eqb (rank r) x)
       (λ t.
-      let d : At at ≡ Nothing = rw t at e in
+      let d : Some at ≡ None = rw t at e in
       let z : ◌≡◌ {A = ℕ} 0 1 = cc in
       absurd (omega arith))
       (λ t. rw t (back_empty x (at + length (written_record r)) past rs (rw t at e)))
@@ -223,7 +223,7 @@ module _ (rank : Fields → ℕ) where
 module _ (n : ℕ) (rank : Fields → ℕ) where
   -- `first_ranked` of what is left: a record with the rank, one with another, none
   pub first_hit : (s : List ℕ) (at x : ℕ) → Place n s at → at < length s → rank (first_record n s at) ≡ x
-      → first_ranked rank x at (records_in n (drop at s)) ≡ At at
+      → first_ranked rank x at (records_in n (drop at s)) ≡ Some at
   unfolding first_ranked
   first_hit s at x p h e = rw ((next_at n s at p h).rest, eq-eqb (rank (first_record n s at)) x e)
 
@@ -232,7 +232,7 @@ module _ (n : ℕ) (rank : Fields → ℕ) where
   unfolding first_ranked
   first_turn s at x r next w e = rw (w.rest, ne_eqb (rank r) x e, ← w.size)
 
-  pub first_end : (s : List ℕ) (at x : ℕ) → length s ≤ at → first_ranked rank x at (records_in n (drop at s)) ≡ Nothing
+  pub first_end : (s : List ℕ) (at x : ℕ) → length s ≤ at → first_ranked rank x at (records_in n (drop at s)) ≡ None
   unfolding first_ranked
   first_end s at x h = rw (none_left n s at h)
 
@@ -306,7 +306,7 @@ module _ (n : ℕ) (rank : Fields → ℕ) where
 
   -- a record with the rank x in a file whose ranks rise is the first with it
   pub hit_anywhere : (s : List ℕ) (at x : ℕ) → Rising rank (records_in n s) → Place n s at → at < length s → rank (first_record n s at) ≡ x
-      → first_ranked rank x 0 (records_in n s) ≡ At at
+      → first_ranked rank x 0 (records_in n s) ≡ Some at
   hit_anywhere s at x up p h e =
       let w = (next_at n s at p h).rest in
       let v : records_in n s ≡ p.past ++ (first_record n s at ∷ records_in n (drop (behind s at) s)) =
@@ -328,7 +328,7 @@ module _ (n : ℕ) (rank : Fields → ℕ) where
     pub within : p < length s
     pub same : rank (first_record n s p) ≡ x
 
-  pub found_place : (s : List ℕ) (x p : ℕ) → LegalFrom n s 0 → first_ranked rank x 0 (records_in n s) ≡ At p → FoundAt s x p
+  pub found_place : (s : List ℕ) (x p : ℕ) → LegalFrom n s 0 → first_ranked rank x 0 (records_in n s) ≡ Some p → FoundAt s x p
   found_place s x p l e =
       let h = hit rank x 0 (records_in n s) p e in
       let w = place_on n s 0 (place_start n s l) h.past (h.first ∷ h.rest) h.whole p h.size in
@@ -359,11 +359,11 @@ module _ (n : ℕ) (rank : Fields → ℕ) where
         ap (first_ranked rank x 0) c.whole ∙ below_skip rank x 0 c.past c.rest c.below ∙ rw (z, onward.left)
 
     -- where its rank is x, it is the first with it
-    pub from_first : p < length s → rank (first_record n s p) ≡ x → first_ranked rank x 0 (records_in n s) ≡ At p
+    pub from_first : p < length s → rank (first_record n s p) ≡ x → first_ranked rank x 0 (records_in n s) ≡ Some p
     from_first h q = from_same ∙ first_hit s p x from_place h q
 
     -- where it is another, or the file ends, there is none
-    pub from_miss : Rising rank (records_in n s) → (p < length s → x < rank (first_record n s p)) → first_ranked rank x 0 (records_in n s) ≡ Nothing
+    pub from_miss : Rising rank (records_in n s) → (p < length s → x < rank (first_record n s p)) → first_ranked rank x 0 (records_in n s) ≡ None
     from_miss up above =
         either (ltb p (length s))
         (λ t.
@@ -374,17 +374,17 @@ module _ (n : ℕ) (rank : Fields → ℕ) where
         (λ t. from_same ∙ first_end s p x (ltb-false p (length s) t))
 
   -- a look back from a place: what stands before it has the rank, or doesn't
-  pub back_hit : (s : List ℕ) (at x p : ℕ) (q : Place n s at) → first_ranked rank x 0 (records_in n s) ≡ At p → p < at → has_rank rank x q.past ≡ true
+  pub back_hit : (s : List ℕ) (at x p : ℕ) (q : Place n s at) → first_ranked rank x 0 (records_in n s) ≡ Some p → p < at → has_rank rank x q.past ≡ true
   back_hit s at x p q e h =
       back_in rank x 0 q.past (records_in n (drop at s)) p (rw q.whole at e) (omega (arith, q.size))
 
-  pub back_miss : (s : List ℕ) (at x p : ℕ) (q : Place n s at) → first_ranked rank x 0 (records_in n s) ≡ At p → at ≤ p → has_rank rank x q.past ≡ false
+  pub back_miss : (s : List ℕ) (at x p : ℕ) (q : Place n s at) → first_ranked rank x 0 (records_in n s) ≡ Some p → at ≤ p → has_rank rank x q.past ≡ false
   back_miss s at x p q e h =
       let some = q.legal.reads.some in
       let a = all_permitted n s some in
       back_out rank n some x 0 q.past (records_in n (drop at s)) p (rw q.whole at a) (rw q.whole at e) (omega (arith, q.size))
 
-  pub back_none : (s : List ℕ) (at x : ℕ) (q : Place n s at) → first_ranked rank x 0 (records_in n s) ≡ Nothing → has_rank rank x q.past ≡ false
+  pub back_none : (s : List ℕ) (at x : ℕ) (q : Place n s at) → first_ranked rank x 0 (records_in n s) ≡ None → has_rank rank x q.past ≡ false
   back_none s at x q e = back_empty rank x 0 q.past (records_in n (drop at s)) (rw q.whole at e)
 
   -- in a file whose ranks rise, no record before a place has the rank of the one there

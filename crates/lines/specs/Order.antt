@@ -1,15 +1,13 @@
 -- Records by a number that each has, its rank: the first with this rank, the first with at least this rank, and records whose ranks rise.
-use Rattle.std.specs.Prelude.{ℕ, ◌+◌, ◌<◌, List, [], ◌∷◌, Bool, true, false, eqb, ltb, leb, length}
+use Rattle.std.specs.Prelude.{ℕ, ◌+◌, ◌<◌, List, [], ◌∷◌, Bool, true, false, eqb, ltb, leb, length, None, Option, Some}
 use Rattle.laws.specs.Tests.{pick}
 use Rattle.file.specs.Format.{Fields, written_record}
-use Rattle.walk.specs.declared.Found.{Found}
-use Rattle.walk.specs.declared.Found.TheVariants.{At, Nothing}
 
 module _ (rank : Fields → ℕ) where
   -- the place of the first record with rank x, where the first of these stands at `at`
-  unfoldable pub first_ranked : ℕ → ℕ → List Fields → Found
-  first_ranked x at [] = Nothing
-  first_ranked x at (r ∷ rs) = pick (eqb (rank r) x) (At at) (first_ranked x (at + length (written_record r)) rs)
+  unfoldable pub first_ranked : ℕ → ℕ → List Fields → Option ℕ
+  first_ranked x at [] = None
+  first_ranked x at (r ∷ rs) = pick (eqb (rank r) x) (Some at) (first_ranked x (at + length (written_record r)) rs)
 
   -- the place of the first record whose rank is not below x, or the place behind the last
   unfoldable pub first_from : ℕ → ℕ → List Fields → ℕ

@@ -8,10 +8,7 @@ ghost use Rattle.lines.specs.Lines.{Place, behind, lead};
 fn plain(b: u8) -> usize
     ensures { (result ≤ 1) × (result ≡ 1 → b ≡ 10 → ⊥) }
 {
-    if b == 10 {
-        return 0;
-    }
-    1
+    (b != b'\n') as usize
 }
 
 // How many of the four bytes at `i` aren't LF.
@@ -42,14 +39,12 @@ pub fn line_after(s: &[u8], at: usize) -> usize
     requires { at < length s.now }
     ensures { result ≡ behind s.now at }
 {
-    let mut i = past_eights(s, at);
-    while i < s.len() {
-        if s[i] == 10 {
+    for i in past_eights(s, at)..s.len() {
+        if s[i] == b'\n' {
             return i + 1;
         }
-        i += 1;
     }
-    i + 1
+    s.len() + 1
 }
 
 // inner: the same from the start of a record of n fields on: each field takes three bytes or more, so the LF isn't among the first

@@ -3,13 +3,13 @@
 use mathlib.Core.Path.{◌≡◌, refl, sym, ap}
 use mathlib.Core.Bool.{Bool, true, false}
 use mathlib.Core.List.{List, [], ◌∷◌}
-use Prim.Native.Nat.{ℕ, zero, suc, ◌+◌, ◌≤◌, ◌<◌}
-use native.Mathlib.Numerals.{add-one}
+use Prim.Native.Nat.{ℕ, zero, suc, ◌≤◌, ◌<◌}
 use native.Mathlib.Omega.{arith}
 use lib.Dec.{T, eqb, ltb, leb, leb→le}
-use lib.ListN.{length, get_or, drop, drop_of_length-le, get_or-eq_default}
-use lib.Seq.{drop-cons}
-use borrow.Author.Tests.{eq-eqb, ne_eqb, le-ltb, ltb-true, ltb-false}
+use lib.ListN.{length, get_or, get_or-eq_default}
+use borrow.Author.Tests.{eq-eqb, ne_eqb, eqb-true, eqb-false, le-ltb, ltb-true, ltb-false}
+use Rattle.std.specs.Prelude.{◌||◌}
+use Rattle.std.specs.List.{list_any}
 use Rattle.laws.specs.Tests.{one_of, either}
 use Rattle.laws.specs.Below.{all, below}
 use Rattle.file.specs.Files.{field_counts, fields_of}
@@ -145,19 +145,18 @@ pub no_signs : (file x : ℕ) → Others (11 ∷ 8 ∷ 7 ∷ 6 ∷ 2 ∷ []) fil
 unfolding is_permitted permitted_signs
 no_signs file x o = none_in (get_or permitted_signs file []) (anywhere is_none permitted_signs [] (11 ∷ 8 ∷ 7 ∷ 6 ∷ 2 ∷ []) tt tt file o) x
 
--- a byte in the list from i on
-module _ (list : List ℕ) (x i : ℕ) (h : i < length list) where
-  pub in_hit : get_or list i 0 ≡ x → is_in x (drop i list) ≡ true
-  unfolding is_in
-  in_hit e = rw (drop-cons list i 0, eq-eqb x (get_or list i 0) (sym e))
+swapped : (a b : ℕ) → eqb a b ≡ eqb b a
+swapped a b = either (eqb b a) (λ t. rw (t, eq-eqb a b (sym (eqb-true b a t)))) (λ t. rw (t, ne_eqb a b (λ e. eqb-false b a t (sym e))))
 
-  pub in_miss : (get_or list i 0 ≡ x → ⊥) → is_in x (drop i list) ≡ is_in x (drop (i + 1) list)
-  unfolding is_in
-  in_miss e = rw (add-one, drop-cons list i 0, ne_eqb x (get_or list i 0) (λ q. e (sym q)))
-
-pub in_none : (list : List ℕ) (x i : ℕ) → length list ≤ i → is_in x (drop i list) ≡ false
+-- whether a byte stands in a list, as the library looks for it
+pub listed : (x : ℕ) (l : List ℕ) → list_any (λ (y : ℕ). eqb y x) l ≡ is_in x l
 unfolding is_in
-in_none list x i h = rw (drop_of_length-le list h)
+listed x [] = refl
+listed x (y ∷ l) = rw (swapped y x) (go (eqb x y) (listed x l))
+  where
+    go : (p : Bool) {r s : Bool} → r ≡ s → (p || r) ≡ one_of p s
+    go true e = refl
+    go false e = e
 
 -- how many fields of a file may have links, by the number that it was found to have; none in a file that no arm names
 pub count_in : (n : ℕ) {file : ℕ} → file ≡ n → links_in n ≡ links_in file

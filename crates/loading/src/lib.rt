@@ -11,15 +11,6 @@ use std::io::{Error, ErrorKind, Read};
 use std::rt::Files;
 use std::{io, str};
 
-// What came of reading a file into the buffer.
-#[derive(Clone, Copy)]
-pub enum Filled {
-    // The place after it.
-    To(usize),
-    // It is there and can't be read.
-    Failed,
-}
-
 // The name as text, which a path is. One that isn't text names no file.
 fn path_of(name: &[u8]) -> io::Result<&str>
     ensures same { IfOk result (λ path. path.now ≡ name.now) }
@@ -67,19 +58,25 @@ fn report(rt: &impl Eprint, name: &[u8], error: Error) {
     let _ = eprintln!(rt; "{}: {error}", name.escape_ascii());
 }
 
-// inner: reads the file of this name behind the others; where the buffer is full there are too many bytes already
-pub fn read_file(rt: &(impl Files + Eprint), name: &[u8], buf: &mut [u8], at: usize) -> Filled
+// inner: reads the file of this name behind the others, and answers the place after it; `None` if it is there and can't be read, which is reported.
+// Where the buffer is full there are too many bytes already.
+pub fn read_file(
+    rt: &(impl Files + Eprint),
+    name: &[u8],
+    buf: &mut [u8],
+    at: usize,
+) -> Option<usize>
     requires { at ≤ length buf.old }
     ensures { Reached at (length buf.old) result × (take at buf.new ≡ take at buf.old) }
 {
     if at == buf.len() {
-        return Filled::To(at);
+        return Some(at);
     }
     match place_after(rt, name, buf, at) {
-        Ok(next) => Filled::To(next),
+        Ok(next) => Some(next),
         Err(error) => {
             report(rt, name, error);
-            Filled::Failed
+            None
         }
     }
 }

@@ -15,10 +15,7 @@ fn parts_of(n: u64, all: u64) -> u64
 
 // So many of 65536 parts of the way; the whole way, where that is too long to tell.
 fn part_of_way(size: usize, parts: u64) -> usize {
-    if parts >= 65536 {
-        return size;
-    }
-    if size >= 4294967296 {
+    if parts >= 65536 || size >= 4294967296 {
         return size;
     }
     size * (parts as usize) / 65536
@@ -33,20 +30,6 @@ fn guess(size: usize, below: u64, above: u64, x: u64) -> usize {
         return size;
     }
     part_of_way(size, parts_of(x - below, above - below))
-}
-
-// The nearest to n of `least` to `most`.
-fn kept(n: usize, least: usize, most: usize) -> usize
-    requires { least ≤ most }
-    ensures { (least ≤ result) × (result ≤ most) }
-{
-    if n < least {
-        return least;
-    }
-    if n > most {
-        return most;
-    }
-    n
 }
 
 // What is left of a search: from `lo` on and before `hi`; and the keys that were seen there, or 0.
@@ -67,12 +50,7 @@ pub fn next_look(left: Left, x: u64, margin: usize) -> usize
     if size / 4 < margin {
         return left.lo + size / 2;
     }
-    left.lo
-        + kept(
-            guess(size, left.below, left.above, x),
-            margin,
-            size - margin,
-        )
+    left.lo + guess(size, left.below, left.above, x).clamp(margin, size - margin)
 }
 
 // inner: the margin grows by half and one, so that the number of looks stays that of a bisection

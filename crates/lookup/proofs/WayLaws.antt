@@ -1,5 +1,6 @@
 -- A search goes the way of its file, and what it found is remembered.
-use mathlib.Core.Path.{◌≡◌, sym, ◌∙◌}
+use Rattle.std.specs.Prelude.{None, Option, Some, unwrap_or}
+use mathlib.Core.Path.{◌≡◌, refl, sym, ◌∙◌}
 use mathlib.Core.Bool.{Bool}
 use mathlib.Core.List.{List}
 use Prim.Native.Nat.{ℕ, ◌+◌, ◌<◌}
@@ -7,8 +8,6 @@ use native.Mathlib.Omega.{arith}
 use native.Mathlib.Decide.{ℕ_discrete}
 use lib.ListN.{length, get_or, set, length-set}
 use lib.Seq.{get_or-set_same, get_or-set_other}
-use Rattle.walk.specs.declared.Found.{Found}
-use Rattle.walk.specs.declared.Found.TheVariants.{At, Nothing}
 use Rattle.keys.specs.KeyFiles.{KeyFile, PlaceIn}
 use Rattle.keys.specs.Ranks.{IsKeyed}
 use Rattle.thirteen.specs.Batch.{Batch, file_in, records_of}
@@ -37,17 +36,23 @@ lasts_entry b last file entry l = record {
 }
 
 -- what was found by a key is where a record starts
-found_there : (file : ℕ) (s k : List ℕ) (p : ℕ) → KeyFile file s → Small k → length k ≡ length (key_fields file) → first_with file k 0 (records_in (fields_of file) s) ≡ At p → PlaceIn file s p
+found_there : (file : ℕ) (s k : List ℕ) (p : ℕ) → KeyFile file s → Small k → length k ≡ length (key_fields file) → first_with file k 0 (records_in (fields_of file) s) ≡ Some p → PlaceIn file s p
 found_there file s k p f small size e =
     (found_place (fields_of file) (rank_of file) s (rank k) p f.legal (sym (first_with_lem file k f.keyed small size 0 (records_in (fields_of file) s) f.keys) ∙ e)).place
 
+-- what was found, or else what was there before, as the library chooses between them
+pub same_choice : (found : Option ℕ) (before : ℕ) → unwrap_or found before ≡ found_or found before
+unfolding found_or
+same_choice (Some p) before = refl
+same_choice None before = refl
+
 -- what was found is remembered
 pub lasts_found : (b : Batch) (order ways last : List ℕ) (file : ℕ) (k : List ℕ) → Looks b order ways last → IsKeyed file → Small k → length k ≡ length (key_fields file)
-    → (found : Found) → found ≡ first_with file k 0 (records_of b file) → Lasts b (set last file (found_or found (get_or last file 0)))
+    → (found : Option ℕ) → found ≡ first_with file k 0 (records_of b file) → Lasts b (set last file (found_or found (get_or last file 0)))
 unfolding found_or
-lasts_found b order ways last file k l f small size (At p) e =
+lasts_found b order ways last file k l f small size (Some p) e =
     lasts_at b last file p l.lasts (omega (arith, f.1)) (found_there file (file_in b file) k p (l.routes file f).serves.keyed small size (sym e))
-lasts_found b order ways last file k l f small size Nothing e = lasts_at b last file (get_or last file 0) l.lasts (omega (arith, f.1)) (l.lasts.place file f)
+lasts_found b order ways last file k l f small size None e = lasts_at b last file (get_or last file 0) l.lasts (omega (arith, f.1)) (l.lasts.place file f)
 
 -- what a search in a file asks, where s is that file
 pub asks_of : (b : Batch) (order ways last : List ℕ) (file count : ℕ) (s part : List ℕ) (how : Bool) → Looks b order ways last → IsKeyed file → length (key_fields file) ≡ count

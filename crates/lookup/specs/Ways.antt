@@ -1,10 +1,8 @@
 -- The ways to the records of a batch's keyed files, files 2-10. Where the part of the lent list for a file stands: the list has one part for
 -- each of the files 2-10, in this order, whose keys don't rise, with as many entries as the file has records; nothing for a file whose keys
 -- rise. Three numbers are kept for each file: how, and where its part begins and ends.
-use Rattle.std.specs.Prelude.{ℕ, ◌+◌, ◌-◌, ◌*◌, ◌≤◌, ◌<◌, ◌≡◌, Bool, true, false, List, eqb, length, get_or, take, drop}
+use Rattle.std.specs.Prelude.{ℕ, ◌+◌, ◌-◌, ◌*◌, ◌≤◌, ◌<◌, ◌≡◌, Bool, true, false, List, eqb, length, get_or, take, drop, None, Option, Some}
 use Rattle.laws.specs.Tests.{one_of}
-use Rattle.walk.specs.declared.Found.{Found}
-use Rattle.walk.specs.declared.Found.TheVariants.{At, Nothing}
 use Rattle.keys.specs.Keys.{key_of, has}
 use Rattle.keys.specs.KeyFiles.{KeyFile, PlaceIn}
 use Rattle.keys.specs.Ranks.{IsKeyed, record_at}
@@ -67,6 +65,6 @@ pub record Looks (b : Batch) (order ways last : List ℕ) : Type 0 where
   pub lasts : Lasts b last
 
 -- where a record was found, or else where one was found before
-unfoldable pub found_or : Found → ℕ → ℕ
-found_or (At at) before = at
-found_or Nothing before = before
+unfoldable pub found_or : Option ℕ → ℕ → ℕ
+found_or (Some at) before = at
+found_or None before = before

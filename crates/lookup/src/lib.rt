@@ -1,102 +1,74 @@
 // A record of a batch by its key: each search goes the way of its file, as `routes` has made it out.
 #![tactic(auto)]
 
-ghost use Rattle.std.specs.Prelude.{◌≡◌, [], ◌∷◌, ◌≤◌, ◌<◌, length};
+ghost use Rattle.std.specs.Prelude.{◌≡◌, [], ◌∷◌, ◌+◌, ◌≤◌, ◌<◌, length, get_or, set};
 ghost use Rattle.keys.specs.Keys.{key_fields, none, first_with};
 ghost use Rattle.keys.specs.Ranks.{IsKeyed};
-ghost use Rattle.thirteen.specs.Batch.{thirteen, records_of};
+ghost use Rattle.thirteen.specs.Batch.{records_of};
+ghost use Rattle.thirteen.specs.Lent.{batch_of};
 ghost use Rattle.lookup.specs.Ways.{Lasts, Looks, from_of, to_of, part_of, found_or};
 
-use find::{with_one, with_two};
-use thirteen::file_of;
-use walk::Found;
+use find::{Hit, with_one, with_two};
+use thirteen::{Files, file_of};
 
-// inner: the part of the list that is a file's index; empty if there is none
-pub fn index_of<'o>(order: &'o [u32], ways: &[usize], file: u64) -> &'o [u32]
-    requires { (file < 11) × (33 ≤ length ways.now) × (from_of ways.now file ≤ to_of ways.now file) × (to_of ways.now file ≤ length order.now) }
-    ensures { result.now ≡ part_of order.now (from_of ways.now file) (to_of ways.now file) }
-{
-    let i = (file as usize) * 3;
-    let from = ways[i + 1];
-    let to = ways[i + 2];
-    &order[from..to]
+// The ways to the records of a batch's keyed files: the lent list, and three numbers for each file, how its records are found and where its part
+// of the list begins and ends.
+#[derive(Clone, Copy)]
+pub struct Paths<'a, 'b> {
+    pub order: &'a [u32],
+    pub ways: &'b [usize],
 }
 
-// Where a record was found, or else where one was found before: it is tried first by the next search.
-fn found_or(found: Found, before: usize) -> usize
-    ensures { result ≡ found_or found before }
+// inner: the part of the list that is a file's index; empty if there is none
+pub fn index_of<'o>(paths: Paths<'o, '_>, file: u64) -> &'o [u32]
+    requires { (file < 11) × (33 ≤ length paths.ways.now) × (from_of paths.ways.now file ≤ to_of paths.ways.now file) × (to_of paths.ways.now file ≤ length paths.order.now) }
+    ensures { result.now ≡ part_of paths.entry.order.now (from_of paths.entry.ways.now file) (to_of paths.entry.ways.now file) }
 {
-    match found {
-        Found::At(at) => at,
-        Found::Nothing => before,
-    }
+    let i = (file as usize) * 3;
+    let from = paths.ways[i + 1];
+    let to = paths.ways[i + 2];
+    &paths.order[from..to]
+}
+
+// What a search found. The next search of the file begins there, or where one was found before, and at the entry that led to it.
+fn remember(hit: Hit, i: usize, last: &mut [usize]) -> Option<usize>
+    requires { (i < 11) × (22 ≤ length last.old) }
+    ensures { (result ≡ hit.found) × (last.new ≡ set (set last.old i (found_or hit.found (get_or last.old i 0))) (i + 11) hit.entry) }
+{
+    last[i] = hit.found.unwrap_or(last[i]);
+    last[i + 11] = hit.entry;
+    hit.found
 }
 
 // inner: the first record of a file whose key is one number
-pub fn look_one<'a>(
-    file: u64,
-    a: u64,
-    f1: &'a [u8],
-    f2: &'a [u8],
-    f3: &'a [u8],
-    f4: &'a [u8],
-    f5: &'a [u8],
-    f6: &'a [u8],
-    f7: &'a [u8],
-    f8: &'a [u8],
-    f9: &'a [u8],
-    f10: &'a [u8],
-    f11: &'a [u8],
-    f12: &'a [u8],
-    f13: &'a [u8],
-    order: &[u32],
-    ways: &[usize],
-    last: &mut [usize],
-) -> Found
-    requires { Looks (thirteen f1.now f2.now f3.now f4.now f5.now f6.now f7.now f8.now f9.now f10.now f11.now f12.now f13.now) order.now ways.now last.old × IsKeyed file × (length (key_fields file) ≡ 1) × (a < none) }
-    ensures { (result ≡ first_with file (a ∷ []) 0 (records_of (thirteen f1.now f2.now f3.now f4.now f5.now f6.now f7.now f8.now f9.now f10.now f11.now f12.now f13.now) file)) × Lasts (thirteen f1.now f2.now f3.now f4.now f5.now f6.now f7.now f8.now f9.now f10.now f11.now f12.now f13.now) last.new }
+pub fn look_one(file: u64, a: u64, files: &Files, paths: Paths, last: &mut [usize]) -> Option<usize>
+    requires { Looks (batch_of files.now) paths.order.now paths.ways.now last.old × IsKeyed file × (length (key_fields file) ≡ 1) × (a < none) }
+    ensures { (result ≡ first_with file (a ∷ []) 0 (records_of (batch_of files.now) file)) × Lasts (batch_of files.now) last.new }
 {
-    let s = file_of(file, f1, f2, f3, f4, f5, f6, f7, f8, f9, f10, f11, f12, f13);
+    let s = file_of(file, files);
     let i = file as usize;
-    let part = index_of(order, ways, file);
-    let hit = with_one(file, s, ways[i * 3] == 1, part, last[i], last[i + 11], a);
-    let found = hit.found;
-    last[i] = found_or(found, last[i]);
-    last[i + 11] = hit.entry;
-    found
+    let rises = paths.ways[i * 3] == 1;
+    let part = index_of(paths, file);
+    let hit = with_one(file, s, rises, part, last[i], last[i + 11], a);
+    remember(hit, i, last)
 }
 
 // inner: the same by two numbers
-pub fn look_two<'a>(
+pub fn look_two(
     file: u64,
     a: u64,
     b: u64,
-    f1: &'a [u8],
-    f2: &'a [u8],
-    f3: &'a [u8],
-    f4: &'a [u8],
-    f5: &'a [u8],
-    f6: &'a [u8],
-    f7: &'a [u8],
-    f8: &'a [u8],
-    f9: &'a [u8],
-    f10: &'a [u8],
-    f11: &'a [u8],
-    f12: &'a [u8],
-    f13: &'a [u8],
-    order: &[u32],
-    ways: &[usize],
+    files: &Files,
+    paths: Paths,
     last: &mut [usize],
-) -> Found
-    requires { Looks (thirteen f1.now f2.now f3.now f4.now f5.now f6.now f7.now f8.now f9.now f10.now f11.now f12.now f13.now) order.now ways.now last.old × IsKeyed file × (length (key_fields file) ≡ 2) × (a < none) × (b < none) }
-    ensures { (result ≡ first_with file (a ∷ b ∷ []) 0 (records_of (thirteen f1.now f2.now f3.now f4.now f5.now f6.now f7.now f8.now f9.now f10.now f11.now f12.now f13.now) file)) × Lasts (thirteen f1.now f2.now f3.now f4.now f5.now f6.now f7.now f8.now f9.now f10.now f11.now f12.now f13.now) last.new }
+) -> Option<usize>
+    requires { Looks (batch_of files.now) paths.order.now paths.ways.now last.old × IsKeyed file × (length (key_fields file) ≡ 2) × (a < none) × (b < none) }
+    ensures { (result ≡ first_with file (a ∷ b ∷ []) 0 (records_of (batch_of files.now) file)) × Lasts (batch_of files.now) last.new }
 {
-    let s = file_of(file, f1, f2, f3, f4, f5, f6, f7, f8, f9, f10, f11, f12, f13);
+    let s = file_of(file, files);
     let i = file as usize;
-    let part = index_of(order, ways, file);
-    let hit = with_two(file, s, ways[i * 3] == 1, part, last[i], last[i + 11], a, b);
-    let found = hit.found;
-    last[i] = found_or(found, last[i]);
-    last[i + 11] = hit.entry;
-    found
+    let rises = paths.ways[i * 3] == 1;
+    let part = index_of(paths, file);
+    let hit = with_two(file, s, rises, part, last[i], last[i + 11], a, b);
+    remember(hit, i, last)
 }

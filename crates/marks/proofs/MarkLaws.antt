@@ -1,4 +1,5 @@
 -- Laws of the signs of a trip's stop: those of the codes of a record, and the line's stop of a trip's stop.
+use Rattle.std.specs.Prelude.{None, Option, Some}
 use mathlib.Core.Path.{◌≡◌, refl, sym, ap, ◌∙◌}
 use mathlib.Core.Bool.{Bool, true, false}
 use mathlib.Core.List.{List, [], ◌∷◌, ◌++◌}
@@ -7,7 +8,7 @@ use native.Mathlib.Omega.{arith}
 use lib.Dec.{eqb}
 use lib.ListN.{length}
 use borrow.Author.Tests.{eq-eqb, ne_eqb, eqb-true, eqb-false}
-use Rattle.laws.specs.Tests.{pick, both, one_of, either}
+use Rattle.laws.specs.Tests.{pick, both, one_of, either, clash, both_left, both_right, both_true}
 use Rattle.file.specs.Files.{fields_of, field_counts}
 use Rattle.file.specs.Format.{Fields, written_record}
 use Rattle.file.specs.Records.{records_in}
@@ -16,8 +17,6 @@ use Rattle.field.specs.Kinds.{kinds, kind_of}
 use Rattle.field.specs.Names.{field}
 use Rattle.field.specs.Values.{is_empty, value}
 use Rattle.walk.specs.Walk.{Cuts}
-use Rattle.walk.specs.declared.Found.{Found}
-use Rattle.walk.specs.declared.Found.TheVariants.{At, Nothing}
 use Rattle.walk.proofs.WalkLaws.{cut_first}
 use Rattle.lines.proofs.OrderLaws.{found_place}
 use Rattle.keys.specs.Keys.{key_table, key_fields, numbers, key_of, same, first_with, of_trip, third, none}
@@ -203,24 +202,24 @@ unfolding key_fields key_table
 two_numbers = refl
 
 -- where no record has a key, none is the first
-none_first : (k : List ℕ) (at : ℕ) (rs : List Fields) → first_with 7 k at rs ≡ Nothing → first_or [] (λ q. same (key_of 7 q) k) rs ≡ []
+none_first : (k : List ℕ) (at : ℕ) (rs : List Fields) → first_with 7 k at rs ≡ None → first_or [] (λ q. same (key_of 7 q) k) rs ≡ []
 unfolding first_with first_or
 none_first k at [] e = refl
 none_first k at (r ∷ rs) e =
     either (same (key_of 7 r) k)
     (λ t.
-    let d : At at ≡ Nothing = rw t at e in
+    let d : Some at ≡ None = rw t at e in
     let z : ◌≡◌ {A = ℕ} 0 1 = cc in
     absurd (omega arith))
     (λ t. rw t (none_first k (at + length (written_record r)) rs (rw t at e)))
 
 -- it is looked for by its line and its tariff number
 pub sought_is : (s : List ℕ) (r : Fields) (line tariff : ℕ) → line ≡ number 1 r → tariff ≡ third 8 r → line < none → tariff < none
-    → {found : Found} → found ≡ first_with 7 (line ∷ tariff ∷ []) 0 (records_in (fields_of 7) s) → StopSought s r found
+    → {found : Option ℕ} → found ≡ first_with 7 (line ∷ tariff ∷ []) 0 (records_in (fields_of 7) s) → StopSought s r found
 sought_is s r line tariff a b l t e =
     record { line_small = rw a at l; tariff_small = rw b at t; look = rw (a, b) at e }
 
-module _ (codes : List Fields) (s : List ℕ) (r : Fields) {found : Found} (sought : StopSought s r found) where
+module _ (codes : List Fields) (s : List ℕ) (r : Fields) {found : Option ℕ} (sought : StopSought s r found) where
   abbrev key : List ℕ
   key = number 1 r ∷ third 8 r ∷ []
 
@@ -232,8 +231,8 @@ module _ (codes : List Fields) (s : List ℕ) (r : Fields) {found : Found} (soug
   by_key = first_same [] (λ q. both (eqb (number 1 q) (number 1 r)) (eqb (number 2 q) (third 8 r))) (λ q. same (key_of 7 q) key) (stop_key (number 1 r) (third 8 r)) line_stops
 
   -- found
-  module _ (f : KeyFile 7 s) (p : ℕ) (d : found ≡ At p) where
-    there : first_with 7 key 0 line_stops ≡ At p
+  module _ (f : KeyFile 7 s) (p : ℕ) (d : found ≡ Some p) where
+    there : first_with 7 key 0 line_stops ≡ Some p
     there = sym sought.look ∙ d
 
     pub stop_found : PlaceIn 7 s p × (p < length s)
@@ -255,7 +254,7 @@ module _ (codes : List Fields) (s : List ℕ) (r : Fields) {found : Found} (soug
     marks_there e = rw stop_is e
 
   -- not found: then there are no signs
-  module _ (d : found ≡ Nothing) where
+  module _ (d : found ≡ None) where
     stop_empty : line_stop_at codes line_stops r ≡ []
     stop_empty = by_key ∙ none_first key 0 line_stops (sym sought.look ∙ d)
 
@@ -313,6 +312,19 @@ own_some sign r h =
     let b : is_empty (field 7 r) ≡ false = ne_eqb (length (field 7 r)) 0 (λ z. h (omega (arith, z, eqb-true (length (field 6 r)) 0 a))) in
     rw (a, b))
     (λ a. rw a (one_more (sign (value (field 6 r))) (signs_from sign 7 1 r)))
+
+-- a stop with no code of its own, and one with a code
+pub bare : (r : Fields) → both (is_empty (field 6 r)) (is_empty (field 7 r)) ≡ true → length (field 6 r) + length (field 7 r) ≡ 0
+bare r e =
+    let a = eqb-true (length (field 6 r)) 0 (both_left (is_empty (field 6 r)) (is_empty (field 7 r)) e) in
+    let b = eqb-true (length (field 7 r)) 0 (both_right (is_empty (field 6 r)) (is_empty (field 7 r)) e) in
+    omega arith
+
+pub coded : (r : Fields) → both (is_empty (field 6 r)) (is_empty (field 7 r)) ≡ false → length (field 6 r) + length (field 7 r) ≡ 0 → ⊥
+coded r e z =
+    let a : is_empty (field 6 r) ≡ true = eq-eqb (length (field 6 r)) 0 (omega arith) in
+    let b : is_empty (field 7 r) ≡ true = eq-eqb (length (field 7 r)) 0 (omega arith) in
+    clash (both_true (is_empty (field 6 r)) (is_empty (field 7 r)) a b) e
 
 module _ (codes line_stops : List Fields) (r : Fields) (x : ℕ) where
   abbrev own : Bool

@@ -1,11 +1,10 @@
 -- The signs of a trip's stop, as the code goes about them: the records of each file are looked through as they are.
-use Rattle.std.specs.Prelude.{ℕ, ◌<◌, ◌≡◌, List, [], ◌∷◌, ◌++◌, eqb, length}
+use Rattle.std.specs.Prelude.{ℕ, ◌<◌, ◌≡◌, List, [], ◌∷◌, ◌++◌, eqb, length, Option}
 use Rattle.laws.specs.Tests.{pick, both}
 use Rattle.file.specs.Files.{fields_of}
 use Rattle.file.specs.Format.{Fields}
 use Rattle.file.specs.Records.{records_in}
 use Rattle.field.specs.Names.{trip_stops_file}
-use Rattle.walk.specs.declared.Found.{Found}
 use Rattle.keys.specs.Keys.{third, first_with, none}
 use Rattle.link.specs.Met.{number}
 use Rattle.link.specs.Signs.{sign_in, is_in}
@@ -26,7 +25,7 @@ module _ (codes line_stops : List Fields) where
       pick (eqb (length own) 0) theirs (own ++ select (λ x. eqb x 36) theirs)
 
 -- the place of the line's stop of Zasspoje record r in Zaslinky, by its line and its tariff number, is sought and found or not
-pub record StopSought (s : List ℕ) (r : Fields) (found : Found) : Type 0 where
+pub record StopSought (s : List ℕ) (r : Fields) (found : Option ℕ) : Type 0 where
   pub line_small : number 1 r < none
   pub tariff_small : third trip_stops_file r < none
   pub look : found ≡ first_with 7 (number 1 r ∷ third trip_stops_file r ∷ []) 0 (records_in (fields_of 7) s)

@@ -4,11 +4,11 @@
 ghost use Rattle.std.specs.Prelude.{◌≡◌, eqb};
 ghost use Rattle.laws.specs.Tests.{pick};
 ghost use Rattle.field.specs.Names.{stops_file};
-ghost use Rattle.keys.specs.Keys.{same};
 ghost use Rattle.rules.specs.Texts.{texts, Kinded};
 ghost use Rattle.named.specs.Names.{is_named};
 
 use fault::Fault;
+use walk::CutRecord;
 
 // The answer.
 #[derive(Clone, Copy)]
@@ -23,43 +23,17 @@ pub enum Named {
     Is(u64),
 }
 
-// Two texts are the same, byte for byte.
-fn same_text(a: &[u8], b: &[u8]) -> bool
-    ensures { result ≡ same a.now b.now }
-{
-    if a.len() != b.len() {
-        return false;
-    }
-    let mut i = 0;
-    while i < a.len() {
-        if a[i] != b[i] {
-            return false;
-        }
-        i += 1;
-    }
-    true
-}
-
 // inner: the stop whose record was cut has this name
-pub fn is_named(f2: &[u8], places: &[usize; 14], town: &[u8], part: &[u8], place: &[u8]) -> bool
-    requires { Kinded stops_file f2.now places.now }
-    ensures { result ≡ is_named town.now part.now place.now (texts stops_file f2.now places.now) }
+pub fn is_named(row: CutRecord, town: &[u8], part: &[u8], place: &[u8]) -> bool
+    requires { Kinded stops_file row.bytes.now row.places.now }
+    ensures { result ≡ is_named town.now part.now place.now (texts stops_file row.entry.bytes.now row.entry.places.now) }
 {
-    if !same_text(walk::part(f2, places, 1), town) {
-        return false;
-    }
-    if !same_text(walk::part(f2, places, 2), part) {
-        return false;
-    }
-    same_text(walk::part(f2, places, 3), place)
+    walk::part(row, 1) == town && walk::part(row, 2) == part && walk::part(row, 3) == place
 }
 
 // inner: the number of the first stop of the name, where this one has it
 pub fn first_of(found: u64, first: u64, number: u64) -> u64
     ensures { result ≡ pick (eqb found 0) number first }
 {
-    if found == 0 {
-        return number;
-    }
-    first
+    if found == 0 { number } else { first }
 }

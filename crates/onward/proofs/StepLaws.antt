@@ -1,5 +1,5 @@
 -- A record that is read field by field: one more field, and what the places say then of each text.
-use mathlib.Core.Path.{◌≡◌, sym, ap, ◌∙◌, subst}
+use mathlib.Core.Path.{◌≡◌, sym, ap, ◌∙◌}
 use mathlib.Core.Bool.{true}
 use mathlib.Core.List.{List, ◌∷◌, ◌++◌}
 use Prim.Native.Nat.{ℕ, ◌+◌, ◌-◌, ◌≤◌, ◌<◌}
@@ -8,20 +8,14 @@ use native.Mathlib.Decide.{ℕ_discrete}
 use lib.ListN.{length, drop, set, length-set, take-append-drop}
 use lib.Seq.{drop-drop, get_or-set_same, get_or-set_other}
 use Rattle.file.specs.Bytes.{quote, starts}
-use Rattle.field.specs.Kinds.{kind_of}
-use Rattle.field.specs.declared.Kind.{Kind}
 use Rattle.walk.specs.Walk.{start_of}
-use Rattle.extent.specs.Extent.{between, TextTo}
+use Rattle.extent.specs.Extent.{between}
 use Rattle.extent.proofs.TextLaws.{starts_cons}
 use Rattle.onward.specs.Onward.{FieldTo, follower, TextAt, Due}
 
 -- a byte that stands at a place is the first from there on
 pub starts_bytes : (b : ℕ) (s : List ℕ) (at : ℕ) → starts b (drop at s) ≡ true → drop at s ≡ b ∷ drop (at + 1) s
 starts_bytes b s at h = starts_cons b (drop at s) h ∙ ap (λ (x : List ℕ). b ∷ x) (drop-drop 1 at s)
-
--- a text of the field's kind behind a quote
-pub field_to : (kind : Kind) (file f : ℕ) (s : List ℕ) (at end : ℕ) → kind_of file f ≡ kind → starts quote (drop at s) ≡ true → TextTo kind s (at + 1) end → FieldTo file f s at end
-field_to kind file f s at end e o t = record { opened = o; text = subst (λ (x : Kind). TextTo x s (at + 1) end) (sym e) t }
 
 -- a field that was read and closed, as the places say it
 text_at : (file f : ℕ) (s : List ℕ) (at end : ℕ) → FieldTo file f s at end → starts quote (drop end s) ≡ true → end < length s → TextAt file f s (at + 1) (end + 3)
@@ -39,18 +33,6 @@ text_at file f s at end h shut l =
       bytes = rw (x, y, z) (starts_bytes quote s at h.opened ∙ ap (λ (l : List ℕ). quote ∷ l) e);
       fits = rw x h.text.fits;
       kind = rw x h.text.is;
-    }
-
--- a record of which no field was read yet
-pub due_first : (file n : ℕ) (s : List ℕ) (start : ℕ) (old : List ℕ) → length old ≡ 14 → start ≤ length s → n ≤ 13 → Due file n s start (set old 0 (start + 1)) 0 start
-due_first file n s start old h l few =
-    let first : start_of (set old 0 (start + 1)) 0 ≡ start + 1 = get_or-set_same old 0 (start + 1) 0 (omega arith) in
-    record {
-      come = record { room = simp length-set h; first = first; fields = λ j l. absurd (omega arith); marks = λ j l. absurd (omega arith) };
-      here = first;
-      from = omega arith;
-      near = l;
-      few = few;
     }
 
 -- one more field, due at `at`, whose text ends at `end`, and what follows it

@@ -1,9 +1,8 @@
 // The fields of a record, one behind another: each step reads the field that is due at a place, marks where the text behind it starts, and answers where
-// the field behind it is due. 0 is answered where the field is not so.
+// the field behind it is due. `None` is answered where the field is not so.
 #![tactic(auto)]
 
-ghost use Rattle.std.specs.Prelude.{◌≡◌, true, [], ◌+◌, ◌≤◌, ◌<◌, length};
-ghost use Rattle.file.specs.Reader.{Classes};
+ghost use Rattle.std.specs.Prelude.{◌≡◌, true, [], ◌+◌, ◌≤◌, ◌<◌, length, IfSome};
 ghost use Rattle.field.specs.Kinds.{admits};
 ghost use Rattle.field.specs.declared.Kind.{Kind};
 ghost use Rattle.onward.specs.Onward.{FieldTo, follower, Due, Ahead, Codes, LineFirst};
@@ -40,18 +39,15 @@ fn close_on(
     at: usize,
     end: usize,
     places: &mut [usize; 14],
-) -> usize
+) -> Option<usize>
     requires { Due file n s.now start places.old f at × (f < n) × FieldTo file (f + 1) s.now at end }
-    ensures { (result ≡ 0 → ⊥) → Due file n s.now start places.new (f + 1) result }
+    ensures { IfSome result (λ next. Due file n s.now start places.new (f + 1) next) }
 {
-    if !stands(s, end, b'"') {
-        return 0;
-    }
-    if !stands(s, end + 1, follower_of(f + 1, n)) {
-        return 0;
+    if !stands(s, end, b'"') || !stands(s, end + 1, follower_of(f + 1, n)) {
+        return None;
     }
     places[f + 1] = end + 3;
-    end + 2
+    Some(end + 2)
 }
 
 // inner: reads field f + 1, due at this place: a number of a to b digits. Answers as `close_on` does.
@@ -65,17 +61,14 @@ pub fn number_on(
     a: usize,
     b: usize,
     places: &mut [usize; 14],
-) -> usize
+) -> Option<usize>
     requires { Ahead (Kind.Digits a b) file n s.now start places.old f at }
-    ensures { (result ≡ 0 → ⊥) → Due file n s.now start places.new (f + 1) result }
+    ensures { IfSome result (λ next. Due file n s.now start places.new (f + 1) next) }
 {
     if !stands(s, at, b'"') {
-        return 0;
+        return None;
     }
-    let end = number_end(s, at + 1, a, b);
-    if end == 0 {
-        return 0;
-    }
+    let end = number_end(s, at + 1, a, b)?;
     close_on(file, f, n, s, start, at, end, places)
 }
 
@@ -90,17 +83,14 @@ pub fn maybe_number_on(
     a: usize,
     b: usize,
     places: &mut [usize; 14],
-) -> usize
+) -> Option<usize>
     requires { Ahead (Kind.MaybeDigits a b) file n s.now start places.old f at }
-    ensures { (result ≡ 0 → ⊥) → Due file n s.now start places.new (f + 1) result }
+    ensures { IfSome result (λ next. Due file n s.now start places.new (f + 1) next) }
 {
     if !stands(s, at, b'"') {
-        return 0;
+        return None;
     }
-    let end = maybe_number_end(s, at + 1, a, b);
-    if end == 0 {
-        return 0;
-    }
+    let end = maybe_number_end(s, at + 1, a, b)?;
     close_on(file, f, n, s, start, at, end, places)
 }
 
@@ -114,19 +104,15 @@ pub fn text_on(
     at: usize,
     a: usize,
     b: usize,
-    class: &[u8; 256],
     places: &mut [usize; 14],
-) -> usize
-    requires { Ahead (Kind.Text a b) file n s.now start places.old f at × Classes class.now }
-    ensures { (result ≡ 0 → ⊥) → Due file n s.now start places.new (f + 1) result }
+) -> Option<usize>
+    requires { Ahead (Kind.Text a b) file n s.now start places.old f at }
+    ensures { IfSome result (λ next. Due file n s.now start places.new (f + 1) next) }
 {
     if !stands(s, at, b'"') {
-        return 0;
+        return None;
     }
-    let end = sized_end(s, at + 1, a, b, class);
-    if end == 0 {
-        return 0;
-    }
+    let end = sized_end(s, at + 1, a, b)?;
     close_on(file, f, n, s, start, at, end, places)
 }
 
@@ -139,17 +125,14 @@ pub fn time_on(
     start: usize,
     at: usize,
     places: &mut [usize; 14],
-) -> usize
+) -> Option<usize>
     requires { Ahead Kind.Time file n s.now start places.old f at }
-    ensures { (result ≡ 0 → ⊥) → Due file n s.now start places.new (f + 1) result }
+    ensures { IfSome result (λ next. Due file n s.now start places.new (f + 1) next) }
 {
     if !stands(s, at, b'"') {
-        return 0;
+        return None;
     }
-    let end = time_end(s, at + 1);
-    if end == 0 {
-        return 0;
-    }
+    let end = time_end(s, at + 1)?;
     close_on(file, f, n, s, start, at, end, places)
 }
 
@@ -162,19 +145,15 @@ pub fn maybe_on(
     start: usize,
     at: usize,
     kind: Kind,
-    class: &[u8; 256],
     places: &mut [usize; 14],
-) -> usize
-    requires { Ahead kind file n s.now start places.old f at × (admits kind [] ≡ true) × Classes class.now }
-    ensures { (result ≡ 0 → ⊥) → Due file n s.now start places.new (f + 1) result }
+) -> Option<usize>
+    requires { Ahead kind file n s.now start places.old f at × (admits kind [] ≡ true) }
+    ensures { IfSome result (λ next. Due file n s.now start places.new (f + 1) next) }
 {
     if !stands(s, at, b'"') {
-        return 0;
+        return None;
     }
-    let end = maybe_end(kind, s, at + 1, class);
-    if end == 0 {
-        return 0;
-    }
+    let end = maybe_end(kind, s, at + 1)?;
     close_on(file, f, n, s, start, at, end, places)
 }
 
@@ -186,19 +165,15 @@ pub fn any_on(
     s: &[u8],
     start: usize,
     at: usize,
-    class: &[u8; 256],
     places: &mut [usize; 14],
-) -> usize
-    requires { Due file n s.now start places.old f at × (f < n) × Classes class.now }
-    ensures { (result ≡ 0 → ⊥) → Due file n s.now start places.new (f + 1) result }
+) -> Option<usize>
+    requires { Due file n s.now start places.old f at × (f < n) }
+    ensures { IfSome result (λ next. Due file n s.now start places.new (f + 1) next) }
 {
     if !stands(s, at, b'"') {
-        return 0;
+        return None;
     }
-    let end = kind_end(kind_of(file, (f + 1) as u64), s, at + 1, class);
-    if end == 0 {
-        return 0;
-    }
+    let end = kind_end(kind_of(file, (f + 1) as u64), s, at + 1)?;
     close_on(file, f, n, s, start, at, end, places)
 }
 
@@ -212,20 +187,15 @@ pub fn codes_on(
     start: usize,
     from: usize,
     places: &mut [usize; 14],
-) -> usize
+) -> Option<usize>
     requires { Due file n s.now start places.old f from × (f ≤ g) × (g ≤ n) × Codes file f g }
-    ensures { (result ≡ 0 → ⊥) → Due file n s.now start places.new g result }
+    ensures { IfSome result (λ next. Due file n s.now start places.new g next) }
 {
     let mut at = from;
-    let mut i = f;
-    while i < g {
-        at = maybe_number_on(file, i, n, s, start, at, 1, 5, places);
-        if at == 0 {
-            return 0;
-        }
-        i += 1;
+    for i in f..g {
+        at = maybe_number_on(file, i, n, s, start, at, 1, 5, places)?;
     }
-    at
+    Some(at)
 }
 
 // inner: reads the first two fields of a record that starts at this place: a line and a number.
@@ -235,14 +205,11 @@ pub fn line_and_number(
     s: &[u8],
     start: usize,
     places: &mut [usize; 14],
-) -> usize
+) -> Option<usize>
     requires { (start ≤ length s.now) × (2 ≤ n) × (n ≤ 13) × LineFirst file }
-    ensures { (result ≡ 0 → ⊥) → Due file n s.now start places.new 2 result }
+    ensures { IfSome result (λ next. Due file n s.now start places.new 2 next) }
 {
     let first = begin(file, n, s, start, places);
-    let second = number_on(file, 0, n, s, start, first, 6, 6, places);
-    if second == 0 {
-        return 0;
-    }
+    let second = number_on(file, 0, n, s, start, first, 6, 6, places)?;
     number_on(file, 1, n, s, start, second, 1, 9, places)
 }

@@ -19,7 +19,7 @@ pub fn rising(file: u64, s: &[u8]) -> bool
     requires { KeyFile file s.now }
     ensures { result ≡ is_rising (rank_of file) (records_in (fields_of file) s.now) }
 {
-    if s.len() == 0 {
+    if s.is_empty() {
         return true;
     }
     let mut last = key_at(file, s, 0);
@@ -59,15 +59,11 @@ pub fn first_from(file: u64, s: &[u8], last: usize, x: Key) -> usize
     if !less(j, x) {
         return next;
     }
-    narrow(
-        file,
-        s,
-        Left {
-            lo: next,
-            hi: s.len(),
-            below: j.hi,
-            above: 0,
-        },
-        x,
-    )
+    let left = Left {
+        lo: next,
+        hi: s.len(),
+        below: j.hi,
+        above: 0,
+    };
+    narrow(file, s, left, x)
 }

@@ -9,7 +9,7 @@ ghost use Rattle.file.specs.Records.{records_in};
 ghost use Rattle.lines.specs.Index.{starts};
 ghost use Rattle.keys.specs.Ranks.{rank_of};
 ghost use Rattle.keys.specs.KeyFiles.{KeyFile};
-ghost use Rattle.thirteen.specs.Batch.{thirteen};
+ghost use Rattle.thirteen.specs.Lent.{batch_of};
 ghost use Rattle.parts.specs.Parts.{starts_in_order, part_of, hint_of};
 ghost use Rattle.parts.specs.Keyed.{KeyedFiles};
 
@@ -17,7 +17,7 @@ use heap::sort;
 use lines::line_after;
 use ordered::rising;
 use tally::count;
-use thirteen::file_of;
+use thirteen::{Files, file_of};
 
 // Where the records of a file start, in the file's own order, over the whole list.
 fn put_starts(file: u64, s: &[u8], list: &mut [u32])
@@ -68,59 +68,26 @@ fn put_part(file: u64, s: &[u8], list: &mut [u32], at: usize) -> usize
 }
 
 // inner: how many places the hint has
-pub fn whole_size<'a>(
-    f1: &'a [u8],
-    f2: &'a [u8],
-    f3: &'a [u8],
-    f4: &'a [u8],
-    f5: &'a [u8],
-    f6: &'a [u8],
-    f7: &'a [u8],
-    f8: &'a [u8],
-    f9: &'a [u8],
-    f10: &'a [u8],
-    f11: &'a [u8],
-    f12: &'a [u8],
-    f13: &'a [u8],
-) -> usize
-    requires { KeyedFiles (thirteen f1.now f2.now f3.now f4.now f5.now f6.now f7.now f8.now f9.now f10.now f11.now f12.now f13.now) }
-    ensures { result ≡ length (hint_of (thirteen f1.now f2.now f3.now f4.now f5.now f6.now f7.now f8.now f9.now f10.now f11.now f12.now f13.now)) }
+pub fn whole_size(files: &Files) -> usize
+    requires { KeyedFiles (batch_of files.now) }
+    ensures { result ≡ length (hint_of (batch_of files.now)) }
 {
     let mut size = 0;
-    let mut file: u64 = 2;
-    while file < 11 {
-        let s = file_of(file, f1, f2, f3, f4, f5, f6, f7, f8, f9, f10, f11, f12, f13);
+    for file in 2..11 {
+        let s = file_of(file, files);
         size += size_of(file, s);
-        file += 1;
     }
     size
 }
 
 // inner: the hint, from the start of the list on
-pub fn put_all<'a>(
-    f1: &'a [u8],
-    f2: &'a [u8],
-    f3: &'a [u8],
-    f4: &'a [u8],
-    f5: &'a [u8],
-    f6: &'a [u8],
-    f7: &'a [u8],
-    f8: &'a [u8],
-    f9: &'a [u8],
-    f10: &'a [u8],
-    f11: &'a [u8],
-    f12: &'a [u8],
-    f13: &'a [u8],
-    list: &mut [u32],
-)
-    requires { KeyedFiles (thirteen f1.now f2.now f3.now f4.now f5.now f6.now f7.now f8.now f9.now f10.now f11.now f12.now f13.now) × (length (hint_of (thirteen f1.now f2.now f3.now f4.now f5.now f6.now f7.now f8.now f9.now f10.now f11.now f12.now f13.now)) ≤ length list.old) }
-    ensures { list.new ≡ splice list.old 0 (hint_of (thirteen f1.now f2.now f3.now f4.now f5.now f6.now f7.now f8.now f9.now f10.now f11.now f12.now f13.now)) }
+pub fn put_all(files: &Files, list: &mut [u32])
+    requires { KeyedFiles (batch_of files.now) × (length (hint_of (batch_of files.now)) ≤ length list.old) }
+    ensures { list.new ≡ splice list.old 0 (hint_of (batch_of files.now)) }
 {
     let mut at = 0;
-    let mut file: u64 = 2;
-    while file < 11 {
-        let s = file_of(file, f1, f2, f3, f4, f5, f6, f7, f8, f9, f10, f11, f12, f13);
+    for file in 2..11 {
+        let s = file_of(file, files);
         at = put_part(file, s, list, at);
-        file += 1;
     }
 }

@@ -1,4 +1,4 @@
-// What a time code asks of a day (document 01, "Days"): odd and even weeks, periods. All of it is inner: what each function means is
+// What a time code asks of a day: odd and even weeks, periods. All of it is inner: what each function means is
 // its definition in specs/Periods.antt.
 #![tactic(auto)]
 
@@ -10,19 +10,11 @@ pub fn parity_fits(kind: u64, number: u64) -> bool
     requires { number ≤ 73048 }
     ensures { result ≡ parity_fits kind number }
 {
-    if kind == 5 {
-        return weeks::odd_week(number);
+    match kind {
+        5 | 7 => weeks::odd_week(number),
+        6 | 8 => !weeks::odd_week(number),
+        _ => true,
     }
-    if kind == 7 {
-        return weeks::odd_week(number);
-    }
-    if kind == 6 {
-        return !weeks::odd_week(number);
-    }
-    if kind == 8 {
-        return !weeks::odd_week(number);
-    }
-    true
 }
 
 // inner: both ends count; with no to-date (`given` false), the one day `from`
@@ -30,10 +22,8 @@ pub fn period_holds(from: u64, given: bool, to: u64, number: u64) -> bool
     ensures { result ≡ period_holds from given to number }
 {
     if given {
-        if number < from {
-            return false;
-        }
-        return number <= to;
+        from <= number && number <= to
+    } else {
+        from == number
     }
-    from == number
 }

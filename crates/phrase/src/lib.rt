@@ -12,13 +12,9 @@ pub fn lay(d: &mut [u8], at: usize, t: &[u8]) -> usize
     requires { at + length t.now ≤ length d.old }
     ensures { (d.new ≡ splice d.old at t.now) × (result ≡ at + length t.now) }
 {
-    let mut i = 0;
-    while i < t.len() {
-        let o = at + i;
-        d[o] = t[i];
-        i += 1;
-    }
-    at + i
+    let end = at + t.len();
+    d[at..end].copy_from_slice(t);
+    end
 }
 
 // A text and a number behind it: 20 digits at most.

@@ -17,22 +17,21 @@ use lines::line_after;
 use ordered::first_from;
 use previous::{key_of, line_before, nearer, number_if_of_trip};
 use seek::lower;
-use walk::Found;
 
 // Where keys rise: the line before the first record that isn't below x, if it is the trip's.
-fn among_rising(file: u64, s: &[u8], last: usize, line: u64, trip: u64, x: u64) -> Found
+fn among_rising(file: u64, s: &[u8], last: usize, line: u64, trip: u64, x: u64) -> Option<usize>
     requires { KeyFile file s.now × (length (key_fields file) ≡ 3) × KeysRise file s.now × PlaceIn file s.now last × (line < none) × (trip < none) × (x ≤ none) }
     ensures { result ≡ previous_of file line trip x (records_in (fields_of file) s.now) }
 {
     let at = first_from(file, s, last, key_of(line, trip, x));
     if at == 0 {
-        return Found::Nothing;
+        return None;
     }
     let before = line_before(s, at);
     if number_if_of_trip(file, s, before, line, trip) == 0 {
-        return Found::Nothing;
+        return None;
     }
-    Found::At(before)
+    Some(before)
 }
 
 // One more than the trip's greatest third number below x, or 0: by an index the entry before the first that isn't below x tells.
@@ -72,12 +71,12 @@ fn with_number(
     line: u64,
     trip: u64,
     y: u64,
-) -> Found
+) -> Option<usize>
     requires { Asks file s.now rises part.now last 3 × (line < none) × (trip < none) × (y ≤ none) }
     ensures { result ≡ with_number file line trip y (records_in (fields_of file) s.now) }
 {
     if y == 0 {
-        return Found::Nothing;
+        return None;
     }
     with_three(file, s, rises, part, last, line, trip, y - 1)
 }
@@ -92,7 +91,7 @@ fn previous_below(
     line: u64,
     trip: u64,
     x: u64,
-) -> Found
+) -> Option<usize>
     requires { Asks file s.now rises part.now last 3 × (line < none) × (trip < none) × (x ≤ none) }
     ensures { result ≡ previous_of file line trip x (records_in (fields_of file) s.now) }
 {
@@ -117,12 +116,9 @@ pub fn previous_of_trip(
     line: u64,
     trip: u64,
     x: u64,
-) -> Found
+) -> Option<usize>
     requires { Asks file s.now rises part.now last 3 × (line < none) × (trip < none) }
     ensures { result ≡ previous_of file line trip x (records_in (fields_of file) s.now) }
 {
-    if x >= 1000000000 {
-        return previous_below(file, s, rises, part, last, line, trip, 1000000000);
-    }
-    previous_below(file, s, rises, part, last, line, trip, x)
+    previous_below(file, s, rises, part, last, line, trip, x.min(1000000000))
 }

@@ -1,9 +1,10 @@
 -- The record of a trip that is the one before some number in key order: the greatest third number as a pass over the records finds it, and
 -- as the record with the greatest rank below some rank shows it.
+use Rattle.std.specs.Prelude.{None, Some}
 use mathlib.Core.Path.{◌≡◌, refl, sym, ap, ◌∙◌}
 use mathlib.Core.Bool.{true, false}
 use mathlib.Core.List.{List, [], ◌∷◌, ◌++◌}
-use Prim.Native.Nat.{ℕ, ◌+◌, ◌*◌, ◌-◌, ◌≤◌, ◌<◌}
+use Prim.Native.Nat.{ℕ, min, ◌+◌, ◌*◌, ◌-◌, ◌≤◌, ◌<◌}
 use native.Mathlib.Omega.{arith}
 use lib.Dec.{eqb, ltb, leb}
 use lib.ListN.{length, get_or}
@@ -12,7 +13,6 @@ use Rattle.laws.specs.Tests.{pick, both, either, clash, both_left, both_right}
 use Rattle.file.specs.Files.{fields_of}
 use Rattle.file.specs.Format.{Fields, written_record, written}
 use Rattle.file.specs.Records.{records_in}
-use Rattle.walk.specs.declared.Found.TheVariants.{At, Nothing}
 use Rattle.walk.proofs.WalkLaws.{none_left}
 use Rattle.lines.specs.Lines.{behind}
 use Rattle.lines.specs.Order.{first_ranked, first_from, Above, Rising}
@@ -34,7 +34,7 @@ use Rattle.previous.specs.Steps.{LineBefore, number_at, with_number}
 use Rattle.previous.proofs.LineBackLaws.{before_place}
 
 -- the greater of two numbers, as a sum
-greater_is : (a b : ℕ) → greater a b ≡ a + (b - a)
+pub greater_is : (a b : ℕ) → greater a b ≡ a + (b - a)
 greater_is a b =
     either (leb a b)
     (λ t. rw t (omega (arith, leb-true a b t)))
@@ -122,7 +122,7 @@ module _ (file line trip x : ℕ) where
   unfolding previous_of with_number
   by_number rs y e = rw e
 
-  pub previous_nothing : (rs : List Fields) (y : ℕ) → y ≡ previous_number file line trip x rs → y ≡ 0 → Nothing ≡ previous_of file line trip x rs
+  pub previous_nothing : (rs : List Fields) (y : ℕ) → y ≡ previous_number file line trip x rs → y ≡ 0 → None ≡ previous_of file line trip x rs
   unfolding previous_of
   previous_nothing rs y e z = rw (eq-eqb (previous_number file line trip x rs) 0 (sym e ∙ z))
 
@@ -143,9 +143,16 @@ module _ (file line trip x : ℕ) where
   unfolding previous_of
   previous_beyond rs a h = rw (number_beyond rs a h)
 
+  -- so it is the same to ask for the lesser of x and ten digits
+  pub previous_capped : (rs : List Fields) → AllKeyed file rs → (y : ℕ) → y ≡ min x none → previous_of file line trip y rs ≡ previous_of file line trip x rs
+  previous_capped rs a y e =
+      either (leb none x)
+      (λ t. let d : y ≡ none = omega (arith, leb-true none x t) in rw d (previous_beyond rs a (leb-true none x t)))
+      (λ t. let d : y ≡ x = omega (arith, leb-false none x t) in rw d)
+
 -- the record by its number: none, or the first with the key
 module _ (file line trip : ℕ) (rs : List Fields) (y : ℕ) where
-  pub with_none : y ≡ 0 → with_number file line trip y rs ≡ Nothing
+  pub with_none : y ≡ 0 → with_number file line trip y rs ≡ None
   unfolding with_number
   with_none e = rw (eq-eqb y 0 e)
 
@@ -381,7 +388,7 @@ module _ (file line trip x : ℕ) (s : List ℕ) (f : KeyFile file s) (count : l
         (λ t. rw t (trails_other t))
 
     -- where keys rise it is the record
-    pub trails_place : line < none → KeysRise file s → (number_at file line trip s p ≡ 0 → ⊥) → At p ≡ previous_of file line trip x (records_in (fields_of file) s)
+    pub trails_place : line < none → KeysRise file s → (number_at file line trip s p ≡ 0 → ⊥) → Some p ≡ previous_of file line trip x (records_in (fields_of file) s)
     unfolding number_at rank
     trails_place a up ne =
         let rs = records_in (fields_of file) s in
@@ -393,7 +400,7 @@ module _ (file line trip x : ℕ) (s : List ℕ) (f : KeyFile file s) (count : l
         let z : y + 1 - 1 ≡ y = omega arith in
         let e = trip_of_lem file line trip r three t in
         let k = previous_found file line trip x rs (y + 1) (trails_here t) (λ v. omega arith) in
-        let v : first_with file (line ∷ trip ∷ y ∷ []) 0 rs ≡ At p =
+        let v : first_with file (line ∷ trip ∷ y ∷ []) 0 rs ≡ Some p =
         first_with_lem file (line ∷ trip ∷ y ∷ []) f.keyed (small_three line trip y a b u) (sym count) 0 rs f.keys
         ∙ ap (λ (z : ℕ). first_ranked (rank_of file) z 0 rs) (sym e)
         ∙ hit_anywhere (fields_of file) (rank_of file) s p (rank_of file r) up l.place l.within refl in

@@ -1,9 +1,7 @@
 -- The record of a trip that is the one before some number in key order: the twin of `next_of`.
-use Rattle.std.specs.Prelude.{ℕ, ◌+◌, ◌-◌, List, [], ◌∷◌, eqb, ltb, leb}
+use Rattle.std.specs.Prelude.{ℕ, ◌+◌, ◌-◌, List, [], ◌∷◌, eqb, ltb, leb, None, Option}
 use Rattle.laws.specs.Tests.{pick, both}
 use Rattle.file.specs.Format.{Fields}
-use Rattle.walk.specs.declared.Found.{Found}
-use Rattle.walk.specs.declared.Found.TheVariants.{Nothing}
 use Rattle.keys.specs.Keys.{of_trip, third, first_with}
 
 abbrev pub greater : ℕ → ℕ → ℕ
@@ -18,8 +16,8 @@ previous_number file line trip x (r ∷ rs) =
     (previous_number file line trip x rs)
 
 -- the place of the trip's record that is the last in key order with a third number below x
-unfoldable pub previous_of : ℕ → ℕ → ℕ → ℕ → List Fields → Found
+unfoldable pub previous_of : ℕ → ℕ → ℕ → ℕ → List Fields → Option ℕ
 previous_of file line trip x rs =
     pick (eqb (previous_number file line trip x rs) 0)
-    Nothing
+    None
     (first_with file (line ∷ trip ∷ (previous_number file line trip x rs - 1) ∷ []) 0 rs)

@@ -21,7 +21,7 @@ pub fn key_of(line: u64, trip: u64, x: u64) -> Key
     if x == 1000000000 {
         return Key { hi: hi + 1, lo: 0 };
     }
-    Key { hi: hi, lo: x }
+    Key { hi, lo: x }
 }
 
 // inner: one more than the third number of the record at a place, if it is one of the trip's; else 0
@@ -41,14 +41,12 @@ pub fn line_before(s: &[u8], at: usize) -> usize
     requires { (0 < at) × (at ≤ length s.now) × (get_or s.now (at - 1) 0 ≡ 10) }
     ensures { LineBefore s.now at result }
 {
-    let mut i = at - 1;
-    while i > 0 {
-        if s[i - 1] == 10 {
+    for i in (1..at).rev() {
+        if s[i - 1] == b'\n' {
             return i;
         }
-        i -= 1;
     }
-    i
+    0
 }
 
 // inner: the greater of `most` and one more than the third number of k, if k is a key of the trip, below x
@@ -56,14 +54,8 @@ pub fn nearer(most: u64, hi: u64, x: u64, k: Key) -> u64
     requires { k.lo < none }
     ensures { result ≡ pick (both (eqb k.hi hi) (ltb k.lo x)) (greater (k.lo + 1) most) most }
 {
-    if k.hi != hi {
-        return most;
+    if k.hi == hi && k.lo < x {
+        return most.max(k.lo + 1);
     }
-    if k.lo >= x {
-        return most;
-    }
-    if k.lo + 1 <= most {
-        return most;
-    }
-    k.lo + 1
+    most
 }

@@ -1,7 +1,7 @@
 // One sale question among many, as the seven numbers that ask it, and its answer as three.
 #![tactic(auto)]
 
-ghost use Rattle.std.specs.Prelude.{◌≡◌, [], ◌∷◌, ◌+◌, ◌≤◌, leb, length};
+ghost use Rattle.std.specs.Prelude.{◌≡◌, [], ◌∷◌, ◌+◌, ◌≤◌, length};
 ghost use Rattle.boarding.specs.Answers.{numbered_sold};
 ghost use Rattle.asking.specs.Rows.{row};
 ghost use Rattle.question.specs.Asked.{asked_at};
@@ -19,14 +19,6 @@ pub struct Question {
     pub year: u64,
     pub from: u64,
     pub to: u64,
-}
-
-// inner: whether a question starts at place i
-pub fn is_asked(asked: &[u64], i: usize) -> bool
-    requires { i ≤ length asked.now }
-    ensures { result ≡ leb (i + 7) (length asked.now) }
-{
-    asked.len() - i >= 7
 }
 
 // inner: the question that starts at place i
@@ -57,6 +49,7 @@ fn no_sale(number: u64) -> Row
 }
 
 // inner: the three numbers of an answer
+#[tactic(auto, unfolding(boarding::specs::Answers::numbered_sold, asking::specs::Rows::row))]
 pub fn row_of(sold: Sold) -> Row
     ensures { row (numbered_sold sold) ≡ result.number ∷ result.departure ∷ result.arrival ∷ [] }
 {

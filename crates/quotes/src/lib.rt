@@ -3,28 +3,21 @@
 
 ghost use Rattle.std.specs.Prelude.{◌≡◌, ◌≤◌, ◌<◌, length, drop};
 ghost use Rattle.file.specs.Bytes.{ends, goes, closes, plain_run, permitted_text};
-ghost use Rattle.file.specs.Reader.{Classes, Reached};
+ghost use Rattle.file.specs.Reader.{Reached};
 
-fn wide(b: u8) -> usize
-    ensures { result ≡ b }
-{
-    b as usize
-}
+use file::class_of;
 
 // The first place from `at` on whose byte is not plain.
-fn plain_end(s: &[u8], at: usize, class: &[u8; 256]) -> usize
-    requires { (at ≤ length s.now) × Classes class.now }
+fn plain_end(s: &[u8], at: usize) -> usize
+    requires { at ≤ length s.now }
     ensures { Reached s.now at (plain_run (drop at s.now)) result }
 {
-    let mut i = at;
-    while i < s.len() {
-        let b = wide(s[i]);
-        if class[b] != b'.' {
+    for i in at..s.len() {
+        if class_of(s[i]) != b'.' {
             return i;
         }
-        i += 1;
     }
-    i
+    s.len()
 }
 
 // Whether a field ends at this place.
@@ -32,60 +25,40 @@ fn ends_at(s: &[u8], at: usize) -> bool
     requires { at < length s.now }
     ensures { result ≡ ends (drop at s.now) }
 {
-    if s[at] != 34 {
-        return false;
-    }
-    let next = at + 1;
-    if next >= s.len() {
-        return false;
-    }
-    let b = s[next];
-    if b == 44 {
-        return true;
-    }
-    b == 59
+    s[at] == b'"' && at + 1 < s.len() && matches!(s[at + 1], b',' | b';')
 }
 
 // inner: the first place from `at` on at which a text doesn't go on.
-pub fn text_end(s: &[u8], at: usize, class: &[u8; 256]) -> usize
-    requires { (at ≤ length s.now) × Classes class.now }
+pub fn text_end(s: &[u8], at: usize) -> usize
+    requires { at ≤ length s.now }
     ensures { Reached s.now at (goes (drop at s.now)) result }
 {
-    let mut i = plain_end(s, at, class);
+    let mut i = plain_end(s, at);
     while i < s.len() {
-        if s[i] != 34 {
+        if s[i] != b'"' || ends_at(s, i) {
             return i;
         }
-        if ends_at(s, i) {
-            return i;
-        }
-        i = plain_end(s, i + 1, class);
+        i = plain_end(s, i + 1);
     }
     i
 }
 
 // inner: the place past the text's closing quote, where a comma or semicolon stands, or where the text stops if no field ends there.
-pub fn text_close(s: &[u8], at: usize, class: &[u8; 256]) -> usize
-    requires { (at ≤ length s.now) × Classes class.now }
+pub fn text_close(s: &[u8], at: usize) -> usize
+    requires { at ≤ length s.now }
     ensures { Reached s.now at (closes (drop at s.now)) result }
 {
-    let mut i = plain_end(s, at, class);
-    while i < s.len() {
-        if s[i] != b'"' {
-            return i;
-        }
-        if ends_at(s, i) {
-            return i + 1;
-        }
-        i = plain_end(s, i + 1, class);
+    let end = text_end(s, at);
+    if end < s.len() && s[end] == b'"' {
+        end + 1
+    } else {
+        end
     }
-    i
 }
 
 // inner: whether the text is permitted.
-pub fn permitted(t: &[u8], class: &[u8; 256]) -> bool
-    requires { Classes class.now }
+pub fn permitted(t: &[u8]) -> bool
     ensures { result ≡ permitted_text t.now }
 {
-    text_end(t, 0, class) == t.len()
+    text_end(t, 0) == t.len()
 }

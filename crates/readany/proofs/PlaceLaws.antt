@@ -7,6 +7,7 @@ use native.Mathlib.Numerals.{add-one}
 use native.Mathlib.Omega.{arith}
 use lib.ListN.{drop}
 use borrow.Author.Tests.{lt-ltb, le-ltb}
+use Rattle.std.specs.Prelude.{Option, Some, None, IfSome}
 use Rattle.file.specs.Bytes.{quote, comma, semicolon, CR, LF, permitted_text}
 use Rattle.file.specs.Format.{Text, Fields, written_field, written_record, PermittedTexts}
 use Rattle.file.specs.Records.{up_to}
@@ -125,7 +126,18 @@ due_all file n m s start places f at next d same all some h =
     subst (λ (x : ℕ). ReadTo file x s start places next) y
     (come_last file (n - 1) s start places c (omega (arith, d.few)) next (subst (λ (x : ℕ). LineTo s x next) k h) (omega (arith, d.from)))
 
+-- the same of a line's end that was looked for
+pub due_read : {file n m : ℕ} {s : List ℕ} {start : ℕ} {places : List ℕ} {f at : ℕ} → Due file m s start places f at → n ≡ m → f ≡ m → 1 ≤ m → (found : Option ℕ)
+    → IfSome found (λ next. LineTo s at next) → IfSome found (λ next. ReadTo file n s start places next)
+due_read {file = file} {n = n} {m = m} {s = s} {start = start} {places = places} {f = f} {at = at} d same all some (Some next) h = due_all file n m s start places f at next d same all some h
+due_read d same all some None h = h
+
 -- a record that was read, by the numbers that its file and its fields were found to have
 pub read_as : {file k n m : ℕ} {s : List ℕ} {start : ℕ} {places : List ℕ} {next : ℕ} → file ≡ k → n ≡ m → ReadTo k m s start places next → ReadTo file n s start places next
 read_as {k = k} {n = n} {s = s} {start = start} {places = places} {next = next} e d h =
     subst (λ (x : ℕ). ReadTo x n s start places next) (sym e) (subst (λ (x : ℕ). ReadTo k x s start places next) (sym d) h)
+
+pub found_as : {file k n m : ℕ} (s : List ℕ) (start : ℕ) (places : List ℕ) (found : Option ℕ) → file ≡ k → n ≡ m
+    → IfSome found (λ next. ReadTo k m s start places next) → IfSome found (λ next. ReadTo file n s start places next)
+found_as s start places (Some next) e d h = read_as e d h
+found_as s start places None e d h = h

@@ -1,25 +1,21 @@
 // A record of any file, its bytes read field by field, each by its kind, so that a number's are looked at once; the places of its texts are marked. What is
-// wrong, and where, is not said: 0 is answered, which is no place behind a byte.
+// wrong, and where, is not said: `None` is answered then.
 #![tactic(auto)]
 
-ghost use Rattle.std.specs.Prelude.{◌≡◌, ◌≤◌, length};
-ghost use Rattle.file.specs.Reader.{Classes};
+ghost use Rattle.std.specs.Prelude.{◌≡◌, ◌≤◌, length, IfSome};
 ghost use Rattle.readany.specs.Reads.{LineTo, ReadTo};
 
 use onward::{any_on, begin};
 use scanner::stands;
 
 // inner: the place behind CR and LF, due at this place
-pub fn line_end(s: &[u8], at: usize) -> usize
-    ensures { (result ≡ 0 → ⊥) → LineTo s.now at result }
+pub fn line_end(s: &[u8], at: usize) -> Option<usize>
+    ensures { IfSome result (λ next. LineTo s.now at next) }
 {
-    if !stands(s, at, b'\r') {
-        return 0;
+    if !stands(s, at, b'\r') || !stands(s, at + 1, b'\n') {
+        return None;
     }
-    if !stands(s, at + 1, b'\n') {
-        return 0;
-    }
-    at + 2
+    Some(at + 2)
 }
 
 // inner: reads the record that starts at this place, and marks its texts' places as `walk::cut` does. Answers where the next record starts.
@@ -28,20 +24,14 @@ pub fn read_any(
     s: &[u8],
     start: usize,
     n: usize,
-    class: &[u8; 256],
     places: &mut [usize; 14],
-) -> usize
-    requires { (start ≤ length s.now) × (1 ≤ n) × (n ≤ 13) × Classes class.now }
-    ensures { (result ≡ 0 → ⊥) → ReadTo file n s.now start places.new result }
+) -> Option<usize>
+    requires { (start ≤ length s.now) × (1 ≤ n) × (n ≤ 13) }
+    ensures { IfSome result (λ next. ReadTo file n s.now start places.new next) }
 {
     let mut at = begin(file, n, s, start, places);
-    let mut f = 0;
-    while f < n {
-        at = any_on(file, f, n, s, start, at, class, places);
-        if at == 0 {
-            return 0;
-        }
-        f += 1;
+    for f in 0..n {
+        at = any_on(file, f, n, s, start, at, places)?;
     }
     line_end(s, at)
 }

@@ -10,45 +10,33 @@ ghost use Rattle.rules.specs.Texts.{texts};
 ghost use Rattle.keys.specs.Keys.{none};
 ghost use Rattle.link.specs.Stage.{amiss, field_amiss};
 ghost use Rattle.lookup.specs.Ways.{Lasts};
-ghost use Rattle.thirteen.specs.Batch.{thirteen};
+ghost use Rattle.thirteen.specs.Lent.{batch_of};
 ghost use Rattle.amiss.specs.Sound.{Record};
 ghost use Rattle.recall.specs.Recall.{Recalls};
 
 use amiss::number_of;
 use flaw::amiss_at;
+use lookup::Paths;
 use tags::{first_link, tag_at};
 use targets::links_in;
+use thirteen::Files;
+use walk::CutRecord;
 
 // Whether nothing is wrong with field f, where `a` is the number in field 1. A link that was found to be met is not looked for again.
-fn field_met<'a>(
+fn field_met(
     file: u64,
-    s: &[u8],
-    places: &[usize; 14],
+    row: CutRecord,
     f: u64,
     a: u64,
-    class: &[u8; 256],
-    f1: &'a [u8],
-    f2: &'a [u8],
-    f3: &'a [u8],
-    f4: &'a [u8],
-    f5: &'a [u8],
-    f6: &'a [u8],
-    f7: &'a [u8],
-    f8: &'a [u8],
-    f9: &'a [u8],
-    f10: &'a [u8],
-    f11: &'a [u8],
-    f12: &'a [u8],
-    f13: &'a [u8],
-    order: &[u32],
-    ways: &[usize],
+    files: &Files,
+    paths: Paths,
     last: &mut [usize],
     table: &mut [u64],
 ) -> bool
-    requires { Record (thirteen f1.now f2.now f3.now f4.now f5.now f6.now f7.now f8.now f9.now f10.now f11.now f12.now f13.now) file s.now places.now order.now ways.now last.old class.now × Recalls (thirteen f1.now f2.now f3.now f4.now f5.now f6.now f7.now f8.now f9.now f10.now f11.now f12.now f13.now) table.old × (file ≤ 13) × (a < none) × (a ≡ value (field 1 (texts file s.now places.now))) × (1 ≤ f) × (f ≤ fields_of file) }
-    ensures { (result ≡ true → amiss (thirteen f1.now f2.now f3.now f4.now f5.now f6.now f7.now f8.now f9.now f10.now f11.now f12.now f13.now) file (texts file s.now places.now) f ≡ 0) × Lasts (thirteen f1.now f2.now f3.now f4.now f5.now f6.now f7.now f8.now f9.now f10.now f11.now f12.now f13.now) last.new × Recalls (thirteen f1.now f2.now f3.now f4.now f5.now f6.now f7.now f8.now f9.now f10.now f11.now f12.now f13.now) table.new }
+    requires { Record (batch_of files.now) file row.bytes.now row.places.now paths.order.now paths.ways.now last.old × Recalls (batch_of files.now) table.old × (file ≤ 13) × (a < none) × (a ≡ value (field 1 (texts file row.bytes.now row.places.now))) × (1 ≤ f) × (f ≤ fields_of file) }
+    ensures { (result ≡ true → amiss (batch_of files.now) file (texts file row.entry.bytes.now row.entry.places.now) f ≡ 0) × Lasts (batch_of files.now) last.new × Recalls (batch_of files.now) table.new }
 {
-    let t = tag_at(file, s, places, f, a);
+    let t = tag_at(file, row, f, a);
     if t == 0 {
         return true;
     }
@@ -56,11 +44,7 @@ fn field_met<'a>(
     if table[slot] == t {
         return true;
     }
-    if amiss_at(
-        file, s, places, f, class, f1, f2, f3, f4, f5, f6, f7, f8, f9, f10, f11, f12, f13, order,
-        ways, last,
-    ) != 0
-    {
+    if amiss_at(file, row, f, files, paths, last) != 0 {
         return false;
     }
     table[slot] = t;
@@ -68,43 +52,23 @@ fn field_met<'a>(
 }
 
 // inner: whether nothing is wrong with any field of a record
-pub fn record_met<'a>(
+pub fn record_met(
     file: u64,
-    s: &[u8],
-    places: &[usize; 14],
-    class: &[u8; 256],
-    f1: &'a [u8],
-    f2: &'a [u8],
-    f3: &'a [u8],
-    f4: &'a [u8],
-    f5: &'a [u8],
-    f6: &'a [u8],
-    f7: &'a [u8],
-    f8: &'a [u8],
-    f9: &'a [u8],
-    f10: &'a [u8],
-    f11: &'a [u8],
-    f12: &'a [u8],
-    f13: &'a [u8],
-    order: &[u32],
-    ways: &[usize],
+    row: CutRecord,
+    files: &Files,
+    paths: Paths,
     last: &mut [usize],
     table: &mut [u64],
 ) -> bool
-    requires { Record (thirteen f1.now f2.now f3.now f4.now f5.now f6.now f7.now f8.now f9.now f10.now f11.now f12.now f13.now) file s.now places.now order.now ways.now last.old class.now × Recalls (thirteen f1.now f2.now f3.now f4.now f5.now f6.now f7.now f8.now f9.now f10.now f11.now f12.now f13.now) table.old × (2 ≤ file) × (file ≤ 13) }
-    ensures { (result ≡ true → field_amiss (thirteen f1.now f2.now f3.now f4.now f5.now f6.now f7.now f8.now f9.now f10.now f11.now f12.now f13.now) file (texts file s.now places.now) ≡ 0) × Lasts (thirteen f1.now f2.now f3.now f4.now f5.now f6.now f7.now f8.now f9.now f10.now f11.now f12.now f13.now) last.new × Recalls (thirteen f1.now f2.now f3.now f4.now f5.now f6.now f7.now f8.now f9.now f10.now f11.now f12.now f13.now) table.new }
+    requires { Record (batch_of files.now) file row.bytes.now row.places.now paths.order.now paths.ways.now last.old × Recalls (batch_of files.now) table.old × (2 ≤ file) × (file ≤ 13) }
+    ensures { (result ≡ true → field_amiss (batch_of files.now) file (texts file row.entry.bytes.now row.entry.places.now) ≡ 0) × Lasts (batch_of files.now) last.new × Recalls (batch_of files.now) table.new }
 {
     let n = links_in(file);
-    let a = number_of(file, s, places, 1);
-    let mut f = first_link(file);
-    while f <= n {
-        if !field_met(
-            file, s, places, f, a, class, f1, f2, f3, f4, f5, f6, f7, f8, f9, f10, f11, f12, f13,
-            order, ways, last, table,
-        ) {
+    let a = number_of(file, row, 1);
+    for f in first_link(file)..=n {
+        if !field_met(file, row, f, a, files, paths, last, table) {
             return false;
         }
-        f += 1;
     }
     true
 }

@@ -11,6 +11,7 @@ use link::Linked;
 use trips::Timed;
 
 // inner: 7, 8 and 9, as a fault of the batch
+#[tactic(auto, unfolding(link::specs::Stage::numbered_linked, fault::specs::Answers::numbered_fault))]
 pub fn linked_fault(l: Linked) -> Fault
     ensures { numbered_fault result ≡ numbered_linked l }
 {
@@ -23,6 +24,7 @@ pub fn linked_fault(l: Linked) -> Fault
 }
 
 // inner: 10 and 11, as a fault of the batch
+#[tactic(auto, unfolding(trips::specs::Answers::numbered_timed, fault::specs::Answers::numbered_fault))]
 pub fn timed_fault(t: Timed) -> Fault
     ensures { numbered_fault result ≡ numbered_timed t }
 {

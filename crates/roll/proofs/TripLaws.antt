@@ -1,4 +1,5 @@
 -- A trip's record is the one that is found by its key, and a key that a record has is of small numbers.
+use Rattle.std.specs.Prelude.{Some}
 use mathlib.Core.Path.{◌≡◌, ◌∙◌}
 use mathlib.Core.Bool.{true, false}
 use mathlib.Core.List.{List, [], ◌∷◌}
@@ -11,7 +12,6 @@ use Rattle.file.specs.Files.{fields_of}
 use Rattle.file.specs.Format.{Fields}
 use Rattle.file.specs.Records.{records_in}
 use Rattle.walk.specs.Walk.{LegalFrom}
-use Rattle.walk.specs.declared.Found.TheVariants.{At}
 use Rattle.keys.specs.Keys.{key_fields, key_table, key_of, numbers, same, has, first_with, of_trip, none}
 use Rattle.keys.specs.KeyFiles.{KeyFile}
 use Rattle.keys.specs.Ranks.{AllKeyed, Small, record_at}
@@ -57,7 +57,7 @@ trip_key line trip q = trip_fields line trip q
 
 -- so the record that is found by a trip's key is the trip's
 pub trip_found : (s : List ℕ) (line trip p : ℕ) → LegalFrom (fields_of trips_file) s 0
-    → first_with trips_file (line ∷ trip ∷ []) 0 (records_in (fields_of trips_file) s) ≡ At p
+    → first_with trips_file (line ∷ trip ∷ []) 0 (records_in (fields_of trips_file) s) ≡ Some p
     → trip_record (records_in (fields_of trips_file) s) line trip ≡ record_at trips_file s p
 trip_found s line trip p l e =
     first_same [] (λ q. both (eqb (number 1 q) line) (eqb (number 2 q) trip)) (λ q. same (key_of trips_file q) (line ∷ trip ∷ [])) (trip_key line trip) (records_in (fields_of trips_file) s)

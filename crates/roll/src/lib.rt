@@ -4,7 +4,6 @@
 
 ghost use Rattle.std.specs.Prelude.{◌≡◌, [], ◌∷◌, ◌<◌, length};
 ghost use Rattle.file.specs.Files.{fields_of};
-ghost use Rattle.file.specs.Reader.{Classes};
 ghost use Rattle.file.specs.Records.{records_in};
 ghost use Rattle.field.specs.Names.{trip_stops_file};
 ghost use Rattle.keys.specs.Keys.{none, first_with};
@@ -17,9 +16,9 @@ ghost use Rattle.roll.specs.Roll.{NthTrip, Names};
 use field::value_of;
 use find::with_three;
 use lines::line_after;
-use lookup::index_of;
+use lookup::{Paths, index_of};
 use tally::count;
-use walk::{Found, cut, part};
+use walk::{CutRecord, cut, part};
 
 // A trip's line and number.
 #[derive(Clone, Copy)]
@@ -29,16 +28,16 @@ pub struct Name {
 }
 
 // inner: how many trips there are
-pub fn count_trips(f6: &[u8], order: &[u32], ways: &[usize]) -> usize
-    requires { Ready trips_file f6.now order.now ways.now }
+pub fn count_trips(f6: &[u8], paths: Paths) -> usize
+    requires { Ready trips_file f6.now paths.order.now paths.ways.now }
     ensures { result ≡ length (records_in (fields_of trips_file) f6.now) }
 {
     count(6, f6)
 }
 
 // inner: where the nth trip stands, from 0 on; the end of the file if there are no more
-pub fn nth_trip(n: u64, f6: &[u8], order: &[u32], ways: &[usize]) -> usize
-    requires { Ready trips_file f6.now order.now ways.now }
+pub fn nth_trip(n: u64, f6: &[u8], paths: Paths) -> usize
+    requires { Ready trips_file f6.now paths.order.now paths.ways.now }
     ensures { NthTrip f6.now n result }
 {
     let mut i: u64 = 0;
@@ -54,15 +53,19 @@ pub fn nth_trip(n: u64, f6: &[u8], order: &[u32], ways: &[usize]) -> usize
 }
 
 // inner: the line and the number of the trip that stands at a place
-pub fn name_at(f6: &[u8], at: usize, order: &[u32], ways: &[usize], class: &[u8; 256]) -> Name
-    requires { Ready trips_file f6.now order.now ways.now × PlaceIn trips_file f6.now at × (at < length f6.now) × Classes class.now }
+pub fn name_at(f6: &[u8], at: usize, paths: Paths) -> Name
+    requires { Ready trips_file f6.now paths.order.now paths.ways.now × PlaceIn trips_file f6.now at × (at < length f6.now) }
     ensures { Names (record_at trips_file f6.now at) result }
 {
     let mut places: [usize; 14] = [0; 14];
-    cut(f6, at, 12, class, &mut places);
+    cut(f6, at, 12, &mut places);
+    let row = CutRecord {
+        bytes: f6,
+        places: &places,
+    };
     Name {
-        line: value_of(part(f6, &places, 0)),
-        trip: value_of(part(f6, &places, 1)),
+        line: value_of(part(row, 0)),
+        trip: value_of(part(row, 1)),
     }
 }
 
@@ -70,20 +73,19 @@ pub fn name_at(f6: &[u8], at: usize, order: &[u32], ways: &[usize], class: &[u8;
 pub fn stop_of(
     tariff: u64,
     f8: &[u8],
-    order: &[u32],
-    ways: &[usize],
+    paths: Paths,
     last: usize,
     line: u64,
     trip: u64,
-) -> Found
-    requires { (tariff < none) × Ready trip_stops_file f8.now order.now ways.now × PlaceIn trip_stops_file f8.now last × (line < none) × (trip < none) }
+) -> Option<usize>
+    requires { (tariff < none) × Ready trip_stops_file f8.now paths.order.now paths.ways.now × PlaceIn trip_stops_file f8.now last × (line < none) × (trip < none) }
     ensures { result ≡ first_with trip_stops_file (line ∷ trip ∷ tariff ∷ []) 0 (records_in (fields_of trip_stops_file) f8.now) }
 {
     with_three(
         8,
         f8,
-        ways[24] == 1,
-        index_of(order, ways, 8),
+        paths.ways[24] == 1,
+        index_of(paths, 8),
         last,
         line,
         trip,

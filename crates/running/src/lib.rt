@@ -4,7 +4,6 @@
 
 ghost use Rattle.std.specs.Prelude.{◌≡◌, ◌≤◌, ◌<◌};
 ghost use Rattle.file.specs.Files.{fields_of};
-ghost use Rattle.file.specs.Reader.{Classes};
 ghost use Rattle.file.specs.Records.{records_in};
 ghost use Rattle.field.specs.Names.{time_codes_file};
 ghost use Rattle.keys.specs.Keys.{none};
@@ -18,7 +17,9 @@ ghost use Rattle.trip.specs.Stage.{trips_file};
 ghost use Rattle.trip.specs.View.{signs_from};
 
 use daysigns::{has_day_sign, signs_allow};
+use lookup::Paths;
 use timecodes::{held_on, types_of};
+use walk::CutRecord;
 
 // Whether a trip's days fit, and where the last of its time codes stands, with the last entry of an index that was looked at.
 #[derive(Clone, Copy)]
@@ -30,31 +31,21 @@ pub struct Days {
 
 // inner: whether a trip, whose record of Spoje was cut, isn't refused with 10; and where the last of its time codes stands
 pub fn days_fit(
-    f6: &[u8],
-    places: &[usize; 14],
+    row: CutRecord,
     line: u64,
     trip: u64,
     f3: &[u8],
     f10: &[u8],
-    order: &[u32],
-    ways: &[usize],
+    paths: Paths,
     last: usize,
     entry: usize,
-    class: &[u8; 256],
 ) -> Days
-    requires { Kinded trips_file f6.now places.now × (line < none) × (trip < none) × Ready codes_file f3.now order.now ways.now × Ready time_codes_file f10.now order.now ways.now × PlaceIn time_codes_file f10.now last × Classes class.now }
-    ensures { (result.fit ≡ days_fit (signs_from (λ c. sign_in (records_in (fields_of codes_file) f3.now) c) 3 10 (texts trips_file f6.now places.now)) (upward time_codes_file line trip (records_in (fields_of time_codes_file) f10.now))) × PlaceIn time_codes_file f10.now result.last }
+    requires { Kinded trips_file row.bytes.now row.places.now × (line < none) × (trip < none) × Ready codes_file f3.now paths.order.now paths.ways.now × Ready time_codes_file f10.now paths.order.now paths.ways.now × PlaceIn time_codes_file f10.now last }
+    ensures { (result.fit ≡ days_fit (signs_from (λ c. sign_in (records_in (fields_of codes_file) f3.now) c) 3 10 (texts trips_file row.entry.bytes.now row.entry.places.now)) (upward time_codes_file line trip (records_in (fields_of time_codes_file) f10.now))) × PlaceIn time_codes_file f10.now result.last }
 {
     let mut seen: [u64; 9] = [0; 9];
-    let m = types_of(f10, order, ways, last, entry, line, trip, class, &mut seen);
-    if seen[3] == 0 {
-        return Days {
-            fit: codes::days_fit(&seen, m.differ, false),
-            last: m.last,
-            entry: m.entry,
-        };
-    }
-    let dated = has_day_sign(f6, places, f3, order, ways, class);
+    let m = types_of(f10, paths, last, entry, line, trip, &mut seen);
+    let dated = seen[3] != 0 && has_day_sign(row, f3, paths);
     Days {
         fit: codes::days_fit(&seen, m.differ, dated),
         last: m.last,
@@ -64,24 +55,21 @@ pub fn days_fit(
 
 // inner: whether the signs and time codes of a trip, whose record of Spoje was cut, allow day d
 pub fn allowed_on(
-    f6: &[u8],
-    places: &[usize; 14],
+    row: CutRecord,
     line: u64,
     trip: u64,
     f3: &[u8],
     f10: &[u8],
-    order: &[u32],
-    ways: &[usize],
-    class: &[u8; 256],
+    paths: Paths,
     d: u64,
     holidays: &[u64],
 ) -> bool
-    requires { Kinded trips_file f6.now places.now × (line < none) × (trip < none) × Ready codes_file f3.now order.now ways.now × Ready time_codes_file f10.now order.now ways.now × Classes class.now × (d ≤ 73048) }
-    ensures { result ≡ codes_allow (signs_from (λ c. sign_in (records_in (fields_of codes_file) f3.now) c) 3 10 (texts trips_file f6.now places.now)) (upward time_codes_file line trip (records_in (fields_of time_codes_file) f10.now)) d holidays.now }
+    requires { Kinded trips_file row.bytes.now row.places.now × (line < none) × (trip < none) × Ready codes_file f3.now paths.order.now paths.ways.now × Ready time_codes_file f10.now paths.order.now paths.ways.now × (d ≤ 73048) }
+    ensures { result ≡ codes_allow (signs_from (λ c. sign_in (records_in (fields_of codes_file) f3.now) c) 3 10 (texts trips_file row.entry.bytes.now row.entry.places.now)) (upward time_codes_file line trip (records_in (fields_of time_codes_file) f10.now)) d holidays.now }
 {
     let mut seen: [u64; 9] = [0; 9];
     let mut held: [u64; 9] = [0; 9];
-    held_on(f10, order, ways, line, trip, d, class, &mut seen, &mut held);
-    let allowed = signs_allow(f6, places, f3, order, ways, class, d, holidays);
+    held_on(f10, paths, line, trip, d, &mut seen, &mut held);
+    let allowed = signs_allow(row, f3, paths, d, holidays);
     codes::codes_allow(&seen, &held, d, allowed)
 }

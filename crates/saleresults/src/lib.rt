@@ -64,6 +64,7 @@ fn plain_sale(number: u64, departure: u64, arrival: u64) -> SaleResult
 }
 
 // The answer on a batch that stands.
+#[tactic(auto, unfolding(boarding::specs::Answers::numbered_sold, crate::specs::Results::sale_result))]
 fn sold_handed(sold: Sold) -> SaleResult
     ensures { result ≡ sale_result (numbered_sold sold) }
 {
@@ -81,6 +82,7 @@ fn sold_handed(sold: Sold) -> SaleResult
 }
 
 // inner: document 01's number, place and values of an answer.
+#[tactic(auto, using(crate::proofs::RefusedLaws::refused_sale), unfolding(outcome::specs::Answers::numbered_sale))]
 pub fn sale_handed(answer: Sale) -> SaleResult
     ensures { result ≡ sale_result (numbered_sale answer) }
 {
@@ -102,6 +104,7 @@ pub fn sale_handed(answer: Sale) -> SaleResult
 }
 
 // inner: the same of many questions.
+#[tactic(auto, using(crate::proofs::RefusedLaws::refused_sales), unfolding(asking::specs::Answers::numbered_sales, crate::specs::Results::sales_result))]
 pub fn sales_handed(answer: Sales) -> SalesResult
     ensures { result ≡ sales_result (numbered_sales answer) }
 {
@@ -143,6 +146,7 @@ fn plain_stop(number: u64, value: u64) -> StopResult
 }
 
 // inner: the same of a stop's name.
+#[tactic(auto, using(crate::proofs::RefusedLaws::refused_stop), unfolding(named::specs::Names::numbered_named, crate::specs::Results::stop_result))]
 pub fn named_handed(answer: Named) -> StopResult
     ensures { result ≡ stop_result (numbered_named answer) }
 {

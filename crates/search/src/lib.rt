@@ -14,49 +14,45 @@ ghost use Rattle.seek.specs.Seek.{Lower};
 use keys::{Key, equal, key_at};
 use lines::line_after;
 use ordered::first_from;
-use walk::Found;
 
 // inner: where keys rise
-pub fn among_rising(file: u64, s: &[u8], last: usize, k: Key) -> Found
+pub fn among_rising(file: u64, s: &[u8], last: usize, k: Key) -> Option<usize>
     requires { KeyFile file s.now × KeysRise file s.now × PlaceIn file s.now last × (k.lo < none) }
     ensures { result ≡ first_ranked (rank_of file) (rank_key k) 0 (records_in (fields_of file) s.now) }
 {
     let first = first_from(file, s, last, k);
-    if first >= s.len() {
-        return Found::Nothing;
+    if first < s.len() && equal(key_at(file, s, first), k) {
+        return Some(first);
     }
-    if equal(key_at(file, s, first), k) {
-        return Found::At(first);
-    }
-    Found::Nothing
+    None
 }
 
 // inner: by an index, at its first entry whose key isn't below k
-pub fn at_entry(file: u64, s: &[u8], order: &[u32], k: Key, i: usize) -> Found
+pub fn at_entry(file: u64, s: &[u8], order: &[u32], k: Key, i: usize) -> Option<usize>
     requires { KeyFile file s.now × IsIndex file s.now order.now × Lower file s.now order.now (rank_key k) i × (k.lo < none) }
     ensures { result ≡ first_ranked (rank_of file) (rank_key k) 0 (records_in (fields_of file) s.now) }
 {
     if i >= order.len() {
-        return Found::Nothing;
+        return None;
     }
     let place = order[i] as usize;
     if equal(key_at(file, s, place), k) {
-        return Found::At(place);
+        return Some(place);
     }
-    Found::Nothing
+    None
 }
 
 // inner: record by record
-pub fn by_search(file: u64, s: &[u8], k: Key) -> Found
+pub fn by_search(file: u64, s: &[u8], k: Key) -> Option<usize>
     requires { KeyFile file s.now × (k.lo < none) }
     ensures { result ≡ first_ranked (rank_of file) (rank_key k) 0 (records_in (fields_of file) s.now) }
 {
     let mut at = 0;
     while at < s.len() {
         if equal(key_at(file, s, at), k) {
-            return Found::At(at);
+            return Some(at);
         }
         at = line_after(s, at);
     }
-    Found::Nothing
+    None
 }

@@ -1,4 +1,5 @@
 -- A search in an index step by step, and what the entry that it finds says of the records of a file by their keys.
+use Rattle.std.specs.Prelude.{None, Some}
 use mathlib.Core.Path.{◌≡◌, sym, ap, ◌∙◌}
 use mathlib.Core.Bool.{Bool, true, false}
 use mathlib.Core.List.{List}
@@ -10,7 +11,6 @@ use borrow.Author.Tests.{ltb-true, ltb-false}
 use Rattle.laws.specs.Tests.{either}
 use Rattle.file.specs.Files.{fields_of}
 use Rattle.file.specs.Records.{records_in}
-use Rattle.walk.specs.declared.Found.TheVariants.{At, Nothing}
 use Rattle.lines.specs.Order.{first_ranked}
 use Rattle.lines.proofs.IndexLaws.{place_known, index_from, index_none, index_below, index_hit, index_miss}
 use Rattle.keys.specs.Ranks.{rank_of, rank_key, KeyIs, record_at}
@@ -80,12 +80,12 @@ module _ (file : ℕ) (s order : List ℕ) (index : IsIndex file s order) where
   module _ (f : KeyFile file s) where
     -- the first entry from x on has the rank x: it is the first record with it
     pub lower_hit : (x m : ℕ) → Lower file s order x m → m < length order → entry_rank file s order m ≡ x
-        → first_ranked (rank_of file) x 0 (records_in (fields_of file) s) ≡ At (get_or order m 0)
+        → first_ranked (rank_of file) x 0 (records_in (fields_of file) s) ≡ Some (get_or order m 0)
     lower_hit x m l h e = index_hit (fields_of file) (rank_of file) s order x index m l.below f.legal h e
 
     -- it has another, or there is none: no record has it
     pub lower_miss : (x m : ℕ) → Lower file s order x m → (m < length order → entry_rank file s order m ≡ x → ⊥)
-        → first_ranked (rank_of file) x 0 (records_in (fields_of file) s) ≡ Nothing
+        → first_ranked (rank_of file) x 0 (records_in (fields_of file) s) ≡ None
     lower_miss x m l g =
         index_miss (fields_of file) (rank_of file) s order x index m l.below f.legal
         (λ h. let ne = g h in omega (arith, l.«from» h, ne))

@@ -36,16 +36,14 @@ fn look(file: u64, s: &[u8], order: &[u32], left: Left, mid: usize, x: Key) -> L
     if less(k, x) {
         return Left {
             lo: mid + 1,
-            hi: left.hi,
             below: k.hi,
-            above: left.above,
+            ..left
         };
     }
     Left {
-        lo: left.lo,
         hi: mid,
-        below: left.below,
         above: k.hi,
+        ..left
     }
 }
 
@@ -92,10 +90,7 @@ fn lower_from(file: u64, s: &[u8], order: &[u32], x: Key, from: usize) -> usize
     requires { KeyFile file s.now × IsIndex file s.now order.now × (x.lo < none) × Between file s.now order.now (rank_key x) from (length order.now) }
     ensures { Lower file s.now order.now (rank_key x) result }
 {
-    if from >= order.len() {
-        return from;
-    }
-    if is_below(file, s, order, x, from) {
+    if from < order.len() && is_below(file, s, order, x, from) {
         return lower_within(file, s, order, x, from + 1, order.len());
     }
     from
@@ -106,10 +101,7 @@ fn lower_till(file: u64, s: &[u8], order: &[u32], x: Key, end: usize) -> usize
     requires { KeyFile file s.now × IsIndex file s.now order.now × (x.lo < none) × Between file s.now order.now (rank_key x) 0 end }
     ensures { Lower file s.now order.now (rank_key x) result }
 {
-    if end == 0 {
-        return 0;
-    }
-    if is_below(file, s, order, x, end - 1) {
+    if end == 0 || is_below(file, s, order, x, end - 1) {
         return end;
     }
     lower_within(file, s, order, x, 0, end - 1)

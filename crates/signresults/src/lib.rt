@@ -1,12 +1,8 @@
-// What C is handed of the calendar's calls on weeks, holidays and day signs (document 01, "Days"). Each result's `number` is 0 for an answer and 12 for a refusal,
+// What C is handed of the calendar's calls on weeks, holidays and day signs. Each result's `number` is 0 for an answer and 12 for a refusal,
 // and the other fields are then the answer's values, or 0 with a refusal.
 #![tactic(auto)]
 
-ghost use Rattle.std.specs.Prelude.{◌≡◌};
-ghost use Rattle.laws.specs.Tests.{bit};
 ghost use Rattle.signresults.specs.Results.{WeekGives, HolidayGives, FitsGives};
-
-use calendar::{Week, Whether};
 
 #[repr(C)]
 #[derive(Clone, Copy)]
@@ -30,24 +26,17 @@ pub struct FitsResult {
     pub fits: u64,
 }
 
-// 1 for true, 0 for false.
-fn bit_of(b: bool) -> u64
-    ensures { result ≡ bit b }
-{
-    if b { 1 } else { 0 }
-}
-
 // inner: the ISO week of a day, and 1 where it is odd.
 pub fn week(number: u64) -> WeekResult
     ensures { WeekGives number result }
 {
     match calendar::week_of(number) {
-        Week::Counted(w, odd) => WeekResult {
+        Some(w) => WeekResult {
             number: 0,
-            week: w,
-            odd: bit_of(odd),
+            week: w.number,
+            odd: u64::from(w.odd),
         },
-        Week::NoWeek => WeekResult {
+        None => WeekResult {
             number: 12,
             week: 0,
             odd: 0,
@@ -60,15 +49,11 @@ pub fn holiday(number: u64, holidays: &[u64]) -> HolidayResult
     ensures { HolidayGives number holidays.now result }
 {
     match calendar::holiday(number, holidays) {
-        Whether::Yes => HolidayResult {
+        Some(yes) => HolidayResult {
             number: 0,
-            holiday: 1,
+            holiday: u64::from(yes),
         },
-        Whether::Not => HolidayResult {
-            number: 0,
-            holiday: 0,
-        },
-        Whether::NoDay => HolidayResult {
+        None => HolidayResult {
             number: 12,
             holiday: 0,
         },
@@ -80,9 +65,11 @@ pub fn fits(sign: u8, number: u64, holidays: &[u64]) -> FitsResult
     ensures { FitsGives sign number holidays.now result }
 {
     match calendar::fits(sign, number, holidays) {
-        Whether::Yes => FitsResult { number: 0, fits: 1 },
-        Whether::Not => FitsResult { number: 0, fits: 0 },
-        Whether::NoDay => FitsResult {
+        Some(yes) => FitsResult {
+            number: 0,
+            fits: u64::from(yes),
+        },
+        None => FitsResult {
             number: 12,
             fits: 0,
         },

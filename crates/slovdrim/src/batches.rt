@@ -3,6 +3,7 @@
 ghost use Rattle.thirteen.specs.Batch.{thirteen};
 ghost use Rattle.gives.specs.Gives.{CheckGives};
 
+use crate::lent::files_of;
 use batch::check;
 use checkresults::{CheckResult, judged};
 
@@ -25,10 +26,8 @@ pub extern "C" fn slovdrim_check<'a>(
 ) -> CheckResult
     ensures { CheckGives (thirteen f1.now f2.now f3.now f4.now f5.now f6.now f7.now f8.now f9.now f10.now f11.now f12.now f13.now) result }
 {
-    let zero: [u32; 1] = [0; 1];
-    let list = &zero[..0];
-    let verdict = check(f1, f2, f3, f4, f5, f6, f7, f8, f9, f10, f11, f12, f13, list);
-    judged(verdict)
+    let files = files_of(f1, f2, f3, f4, f5, f6, f7, f8, f9, f10, f11, f12, f13);
+    judged(check(&files, &[]))
 }
 
 // The same with a list that may hold anything: the answer doesn't depend on it.
@@ -51,7 +50,6 @@ pub extern "C" fn slovdrim_check_hinted<'a>(
 ) -> CheckResult
     ensures { CheckGives (thirteen f1.now f2.now f3.now f4.now f5.now f6.now f7.now f8.now f9.now f10.now f11.now f12.now f13.now) result }
 {
-    judged(check(
-        f1, f2, f3, f4, f5, f6, f7, f8, f9, f10, f11, f12, f13, order,
-    ))
+    let files = files_of(f1, f2, f3, f4, f5, f6, f7, f8, f9, f10, f11, f12, f13);
+    judged(check(&files, order))
 }

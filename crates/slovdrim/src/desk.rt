@@ -2,6 +2,7 @@
 ghost use Rattle.thirteen.specs.Batch.{thirteen};
 ghost use Rattle.gives.specs.Gives.{SaleGives, SalesGives, StopGives};
 
+use crate::lent::files_of;
 use naming::stop_named;
 use sale::may_sell;
 use saleresults::{SaleResult, SalesResult, StopResult, named_handed, sale_handed, sales_handed};
@@ -34,13 +35,19 @@ pub extern "C" fn slovdrim_sale<'a>(
 ) -> SaleResult
     ensures { SaleGives (thirteen f1.now f2.now f3.now f4.now f5.now f6.now f7.now f8.now f9.now f10.now f11.now f12.now f13.now) line trip day month year from to holidays.now result }
 {
-    let zero: [u32; 1] = [0; 1];
-    let list = &zero[..0];
-    let answer = may_sell(
-        f1, f2, f3, f4, f5, f6, f7, f8, f9, f10, f11, f12, f13, list, holidays, line, trip, day,
-        month, year, from, to,
-    );
-    sale_handed(answer)
+    let files = files_of(f1, f2, f3, f4, f5, f6, f7, f8, f9, f10, f11, f12, f13);
+    sale_handed(may_sell(
+        &files,
+        &[],
+        holidays,
+        line,
+        trip,
+        day,
+        month,
+        year,
+        from,
+        to,
+    ))
 }
 
 // The same with a list that may hold anything: the answer doesn't depend on it.
@@ -71,9 +78,9 @@ pub extern "C" fn slovdrim_sale_hinted<'a>(
 ) -> SaleResult
     ensures { SaleGives (thirteen f1.now f2.now f3.now f4.now f5.now f6.now f7.now f8.now f9.now f10.now f11.now f12.now f13.now) line trip day month year from to holidays.now result }
 {
+    let files = files_of(f1, f2, f3, f4, f5, f6, f7, f8, f9, f10, f11, f12, f13);
     sale_handed(may_sell(
-        f1, f2, f3, f4, f5, f6, f7, f8, f9, f10, f11, f12, f13, order, holidays, line, trip, day,
-        month, year, from, to,
+        &files, order, holidays, line, trip, day, month, year, from, to,
     ))
 }
 
@@ -100,9 +107,8 @@ pub extern "C" fn slovdrim_sales<'a>(
 ) -> SalesResult
     ensures { SalesGives (thirteen f1.now f2.now f3.now f4.now f5.now f6.now f7.now f8.now f9.now f10.now f11.now f12.now f13.now) holidays.now asked.now list.old (result, list.new) }
 {
-    sales_handed(many_sales(
-        f1, f2, f3, f4, f5, f6, f7, f8, f9, f10, f11, f12, f13, order, holidays, asked, list,
-    ))
+    let files = files_of(f1, f2, f3, f4, f5, f6, f7, f8, f9, f10, f11, f12, f13);
+    sales_handed(many_sales(&files, order, holidays, asked, list))
 }
 
 // A stop by its name.
@@ -127,12 +133,8 @@ pub extern "C" fn slovdrim_stop<'a>(
 ) -> StopResult
     ensures { StopGives (thirteen f1.now f2.now f3.now f4.now f5.now f6.now f7.now f8.now f9.now f10.now f11.now f12.now f13.now) town.now part.now place.now result }
 {
-    let zero: [u32; 1] = [0; 1];
-    let list = &zero[..0];
-    let answer = stop_named(
-        f1, f2, f3, f4, f5, f6, f7, f8, f9, f10, f11, f12, f13, list, town, part, place,
-    );
-    named_handed(answer)
+    let files = files_of(f1, f2, f3, f4, f5, f6, f7, f8, f9, f10, f11, f12, f13);
+    named_handed(stop_named(&files, &[], town, part, place))
 }
 
 // The same with a list that may hold anything.
@@ -158,7 +160,6 @@ pub extern "C" fn slovdrim_stop_hinted<'a>(
 ) -> StopResult
     ensures { StopGives (thirteen f1.now f2.now f3.now f4.now f5.now f6.now f7.now f8.now f9.now f10.now f11.now f12.now f13.now) town.now part.now place.now result }
 {
-    named_handed(stop_named(
-        f1, f2, f3, f4, f5, f6, f7, f8, f9, f10, f11, f12, f13, order, town, part, place,
-    ))
+    let files = files_of(f1, f2, f3, f4, f5, f6, f7, f8, f9, f10, f11, f12, f13);
+    named_handed(stop_named(&files, order, town, part, place))
 }

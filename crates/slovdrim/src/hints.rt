@@ -2,6 +2,7 @@
 ghost use Rattle.thirteen.specs.Batch.{thirteen};
 ghost use Rattle.hintresults.specs.Results.{HintGives};
 
+use crate::lent::files_of;
 use arrange::arrange;
 use hintresults::{HintResult, hint_handed};
 
@@ -25,5 +26,6 @@ pub extern "C" fn slovdrim_order<'a>(
 ) -> HintResult
     ensures { HintGives (thirteen f1.now f2.now f3.now f4.now f5.now f6.now f7.now f8.now f9.now f10.now f11.now f12.now f13.now) list.old (result, list.new) }
 {
-    hint_handed(arrange(f1, f2, f3, f4, f5, f6, f7, f8, f9, f10, f11, f12, f13, list))
+    let files = files_of(f1, f2, f3, f4, f5, f6, f7, f8, f9, f10, f11, f12, f13);
+    hint_handed(arrange(&files, list))
 }

@@ -2,6 +2,7 @@
 ghost use Rattle.thirteen.specs.Batch.{thirteen};
 ghost use Rattle.gives.specs.TripGives.{RunsGives, TripStopGives};
 
+use crate::lent::files_of;
 use calls::trip_stop;
 use counter::runs;
 use tripresults::{RunsResult, TripStopResult, runs_handed, stop_handed};
@@ -29,12 +30,8 @@ pub extern "C" fn slovdrim_runs<'a>(
 ) -> RunsResult
     ensures { RunsGives (thirteen f1.now f2.now f3.now f4.now f5.now f6.now f7.now f8.now f9.now f10.now f11.now f12.now f13.now) line trip day holidays.now result }
 {
-    let zero: [u32; 1] = [0; 1];
-    let list = &zero[..0];
-    let answer = runs(
-        f1, f2, f3, f4, f5, f6, f7, f8, f9, f10, f11, f12, f13, list, line, trip, day, holidays,
-    );
-    runs_handed(answer)
+    let files = files_of(f1, f2, f3, f4, f5, f6, f7, f8, f9, f10, f11, f12, f13);
+    runs_handed(runs(&files, &[], line, trip, day, holidays))
 }
 
 // A trip's nth stop in travel order.
@@ -59,10 +56,6 @@ pub extern "C" fn slovdrim_trip_stop<'a>(
 ) -> TripStopResult
     ensures { TripStopGives (thirteen f1.now f2.now f3.now f4.now f5.now f6.now f7.now f8.now f9.now f10.now f11.now f12.now f13.now) line trip nth result }
 {
-    let zero: [u32; 1] = [0; 1];
-    let list = &zero[..0];
-    let answer = trip_stop(
-        f1, f2, f3, f4, f5, f6, f7, f8, f9, f10, f11, f12, f13, list, line, trip, nth,
-    );
-    stop_handed(answer)
+    let files = files_of(f1, f2, f3, f4, f5, f6, f7, f8, f9, f10, f11, f12, f13);
+    stop_handed(trip_stop(&files, &[], line, trip, nth))
 }

@@ -21,7 +21,7 @@ module _ (g b : Batch) where
 
   reaches_same : (link : Link) (f : ℕ) (r : Fields) → SameFor link → reaches g link f r ≡ reaches b link f r
   unfolding reaches
-  reaches_same link f r e = rw e
+  reaches_same to f r e = rw e
 
   -- the link is met in both or in none
   met_same : (link : Link) (f : ℕ) (r : Fields) → SameFor link → met g link f r ≡ met b link f r

@@ -11,9 +11,11 @@ use Rattle.laws.specs.Tests.{either}
 use Rattle.keys.proofs.TableLaws.{one_of_lem}
 use Rattle.link.specs.Links.{zastavky, linky, spoje, zaslinky, links, link_of, target}
 use Rattle.link.specs.declared.Link.{Link}
-use Rattle.thirteen.specs.Batch.{Batch, thirteen, file_in}
+use Rattle.thirteen.specs.Batch.{Batch, file_in}
+use Rattle.thirteen.specs.Lent.{batch_of}
+use Rattle.thirteen.specs.declared.Files.{Files}
 use Rattle.passage.specs.Passage.{Passes}
-use Rattle.smooth.specs.Smooth.{Orderly, OrderlyFiles, Passed, targets_of, TargetsPassed, AllPassed}
+use Rattle.smooth.specs.Smooth.{Orderly, OrderlyFiles, Passed, targets_of, targets_in, TargetsPassed, AllPassed}
 use Rattle.smooth.proofs.AgreeLaws.{SameFor, Agree, passes_too}
 use Rattle.smooth.proofs.OrderlyLaws.{empty, orderly_targets}
 use Rattle.smooth.proofs.PassedLaws.{orderly}
@@ -33,51 +35,48 @@ agree : (g b : Batch) (file : ℕ) → EachOf (SameFor g b) (get_or links file [
 unfolding link_of target file_in
 agree g b file e f = one_link (SameFor g b) (Link.Free ∷ get_or links file []) refl (refl, e) f
 
-module _ (f1 f2 f3 f4 f5 f6 f7 : List ℕ) where
+module _ (f : Files) where
   -- what each pair of files is gone through beside
   abbrev pub no_files : Batch
-  no_files = targets_of f1 [] [] [] [] [] []
+  no_files = targets_of f.version.now [] [] [] [] [] []
 
   abbrev pub base_files : Batch
-  base_files = targets_of f1 [] f3 f4 [] [] []
+  base_files = targets_of f.version.now [] f.codes.now f.carriers.now [] [] []
 
   abbrev pub line_files : Batch
-  line_files = targets_of f1 f2 f3 f4 f5 [] []
-
-  abbrev targets : Batch
-  targets = targets_of f1 f2 f3 f4 f5 f6 f7
+  line_files = targets_of f.version.now f.stops.now f.codes.now f.carriers.now f.lines.now [] []
 
   -- they are orderly
   pub no_orderly : OrderlyFiles no_files
-  no_orderly = orderly_targets f1 [] [] [] [] [] [] (empty 2 (omega arith) (omega arith)) (empty 3 (omega arith) (omega arith)) (empty 4 (omega arith) (omega arith)) (empty 5 (omega arith) (omega arith)) (empty 6 (omega arith) (omega arith)) (empty 7 (omega arith) (omega arith))
+  no_orderly = orderly_targets f.version.now [] [] [] [] [] [] (empty 2 (omega arith) (omega arith)) (empty 3 (omega arith) (omega arith)) (empty 4 (omega arith) (omega arith)) (empty 5 (omega arith) (omega arith)) (empty 6 (omega arith) (omega arith)) (empty 7 (omega arith) (omega arith))
 
-  module _ (p3 : Passes no_files 3 f3) (p4 : Passes no_files 4 f4) where
+  module _ (p3 : Passes no_files 3 f.codes.now) (p4 : Passes no_files 4 f.carriers.now) where
     pub base_orderly : OrderlyFiles base_files
-    base_orderly = orderly_targets f1 [] f3 f4 [] [] [] (empty 2 (omega arith) (omega arith)) (orderly no_files 3 f3 p3) (orderly no_files 4 f4 p4) (empty 5 (omega arith) (omega arith)) (empty 6 (omega arith) (omega arith)) (empty 7 (omega arith) (omega arith))
+    base_orderly = orderly_targets f.version.now [] f.codes.now f.carriers.now [] [] [] (empty 2 (omega arith) (omega arith)) (orderly no_files 3 f.codes.now p3) (orderly no_files 4 f.carriers.now p4) (empty 5 (omega arith) (omega arith)) (empty 6 (omega arith) (omega arith)) (empty 7 (omega arith) (omega arith))
 
-    module _ (p2 : Passes base_files 2 f2) (p5 : Passes base_files 5 f5) where
+    module _ (p2 : Passes base_files 2 f.stops.now) (p5 : Passes base_files 5 f.lines.now) where
       pub line_orderly : OrderlyFiles line_files
       line_orderly =
-          orderly_targets f1 f2 f3 f4 f5 [] [] (orderly base_files 2 f2 p2) (orderly no_files 3 f3 p3) (orderly no_files 4 f4 p4) (orderly base_files 5 f5 p5) (empty 6 (omega arith) (omega arith)) (empty 7 (omega arith) (omega arith))
+          orderly_targets f.version.now f.stops.now f.codes.now f.carriers.now f.lines.now [] [] (orderly base_files 2 f.stops.now p2) (orderly no_files 3 f.codes.now p3) (orderly no_files 4 f.carriers.now p4) (orderly base_files 5 f.lines.now p5) (empty 6 (omega arith) (omega arith)) (empty 7 (omega arith) (omega arith))
 
       -- and what passes beside them passes beside all that are linked to
-      module _ (p6 : Passes line_files 6 f6) (p7 : Passes line_files 7 f7) where
-        pub targets_passed : TargetsPassed targets
+      module _ (p6 : Passes line_files 6 f.trips.now) (p7 : Passes line_files 7 f.line_stops.now) where
+        pub targets_passed : TargetsPassed (targets_in f)
         unfolding file_in target links zastavky linky spoje zaslinky
         targets_passed file h l =
-            let q2 = passes_too base_files targets 2 (agree base_files targets 2 (refl, (refl, (refl, (refl, (refl, (refl, (refl, (refl, (refl, (refl, (refl, (refl, tt))))))))))))) f2 p2 in
-            let q3 = passes_too no_files targets 3 (agree no_files targets 3 tt) f3 p3 in
-            let q4 = passes_too no_files targets 4 (agree no_files targets 4 tt) f4 p4 in
-            let q5 = passes_too base_files targets 5 (agree base_files targets 5 (refl, (refl, (refl, tt)))) f5 p5 in
-            let q6 = passes_too line_files targets 6 (agree line_files targets 6 (refl, (refl, (refl, (refl, (refl, (refl, (refl, (refl, (refl, (refl, (refl, (refl, tt))))))))))))) f6 p6 in
-            let q7 = passes_too line_files targets 7 (agree line_files targets 7 (refl, (refl, (refl, (refl, (refl, (refl, (refl, tt)))))))) f7 p7 in
-            one_of_lem (Passed targets) 2 6 (q2, (q3, (q4, (q5, (q6, (q7, tt)))))) file h (omega arith)
+            let q2 = passes_too base_files (targets_in f) 2 (agree base_files (targets_in f) 2 (refl, (refl, (refl, (refl, (refl, (refl, (refl, (refl, (refl, (refl, (refl, (refl, tt))))))))))))) f.stops.now p2 in
+            let q3 = passes_too no_files (targets_in f) 3 (agree no_files (targets_in f) 3 tt) f.codes.now p3 in
+            let q4 = passes_too no_files (targets_in f) 4 (agree no_files (targets_in f) 4 tt) f.carriers.now p4 in
+            let q5 = passes_too base_files (targets_in f) 5 (agree base_files (targets_in f) 5 (refl, (refl, (refl, tt)))) f.lines.now p5 in
+            let q6 = passes_too line_files (targets_in f) 6 (agree line_files (targets_in f) 6 (refl, (refl, (refl, (refl, (refl, (refl, (refl, (refl, (refl, (refl, (refl, (refl, tt))))))))))))) f.trips.now p6 in
+            let q7 = passes_too line_files (targets_in f) 7 (agree line_files (targets_in f) 7 (refl, (refl, (refl, (refl, (refl, (refl, (refl, tt)))))))) f.line_stops.now p7 in
+            one_of_lem (Passed (targets_in f)) 2 6 (q2, (q3, (q4, (q5, (q6, (q7, tt)))))) file h (omega arith)
 
-  pub targets_orderly : TargetsPassed targets → OrderlyFiles targets
+  pub targets_orderly : TargetsPassed (targets_in f) → OrderlyFiles (targets_in f)
   unfolding file_in
   targets_orderly p =
-      let o : (file : ℕ) → 2 ≤ file → file ≤ 7 → Orderly file (file_in targets file) = λ file h l. orderly targets file (file_in targets file) (p file h l) in
-      orderly_targets f1 f2 f3 f4 f5 f6 f7 (o 2 (omega arith) (omega arith)) (o 3 (omega arith) (omega arith)) (o 4 (omega arith) (omega arith)) (o 5 (omega arith) (omega arith)) (o 6 (omega arith) (omega arith)) (o 7 (omega arith) (omega arith))
+      let o : (file : ℕ) → 2 ≤ file → file ≤ 7 → Orderly file (file_in (targets_in f) file) = λ file h l. orderly (targets_in f) file (file_in (targets_in f) file) (p file h l) in
+      orderly_targets f.version.now f.stops.now f.codes.now f.carriers.now f.lines.now f.trips.now f.line_stops.now (o 2 (omega arith) (omega arith)) (o 3 (omega arith) (omega arith)) (o 4 (omega arith) (omega arith)) (o 5 (omega arith) (omega arith)) (o 6 (omega arith) (omega arith)) (o 7 (omega arith) (omega arith))
 
 -- The files of b from 8 on that are below `file` pass beside those of g; and one more.
 abbrev pub PassedBelow : Batch → Batch → ℕ → Type 0
@@ -101,12 +100,12 @@ target_near Link.TripOrZero = omega arith
 target_near Link.LineStop = omega arith
 target_near Link.Code = omega arith
 
-module _ (f1 f2 f3 f4 f5 f6 f7 f8 f9 f10 f11 f12 f13 : List ℕ) where
+module _ (f : Files) where
   abbrev g : Batch
-  g = targets_of f1 f2 f3 f4 f5 f6 f7
+  g = targets_in f
 
   abbrev b : Batch
-  b = thirteen f1 f2 f3 f4 f5 f6 f7 f8 f9 f10 f11 f12 f13
+  b = batch_of f
 
   same_files : (file : ℕ) → file < 0 + 8 → file_in g file ≡ file_in b file
   unfolding file_in

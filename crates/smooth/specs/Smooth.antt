@@ -6,6 +6,7 @@ use Rattle.keys.specs.Ranks.{IsKeyed}
 use Rattle.lookup.specs.Ways.{Ways}
 use Rattle.sweep.specs.Sweep.{SoundFrom}
 use Rattle.thirteen.specs.Batch.{Batch, thirteen, file_in}
+use Rattle.thirteen.specs.declared.Files.{Files}
 use Rattle.filefaults.specs.Version.{RightVersion}
 use Rattle.passage.specs.Passage.{Passes}
 
@@ -29,6 +30,11 @@ Passed b file = Passes b file (file_in b file)
 -- the files that are linked to, and in place of the others empty ones
 abbrev pub targets_of : List ℕ → List ℕ → List ℕ → List ℕ → List ℕ → List ℕ → List ℕ → Batch
 targets_of f1 f2 f3 f4 f5 f6 f7 = thirteen f1 f2 f3 f4 f5 f6 f7 [] [] [] [] [] []
+
+-- those of the files that are lent
+abbrev pub targets_in : Files → Batch
+targets_in f =
+    targets_of f.version.now f.stops.now f.codes.now f.carriers.now f.lines.now f.trips.now f.line_stops.now
 
 -- each of them passes
 abbrev pub TargetsPassed : Batch → Type 0

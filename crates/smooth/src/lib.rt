@@ -4,177 +4,119 @@
 #![tactic(auto)]
 
 ghost use Rattle.std.specs.Prelude.{◌≡◌, true, ◌≤◌, length};
-ghost use Rattle.file.specs.Reader.{Classes};
-ghost use Rattle.thirteen.specs.Batch.{thirteen};
+ghost use Rattle.thirteen.specs.Lent.{batch_of};
 ghost use Rattle.passage.specs.Passage.{Passes};
-ghost use Rattle.smooth.specs.Smooth.{OrderlyFiles, RisingWays, targets_of, TargetsPassed, AllPassed, Smooth};
+ghost use Rattle.smooth.specs.Smooth.{OrderlyFiles, RisingWays, targets_in, TargetsPassed, AllPassed, Smooth};
 
 use fault::is_none;
 use filefaults::is_right_version;
 use glance::seem_rising;
+use lookup::Paths;
 use overfiles::first_long;
 use passage::passes;
-use thirteen::file_of;
+use thirteen::{Files, file_of};
 
 // Sets the way to each keyed file as to one whose keys rise and that has no index. That holds of an empty file, and of each file as soon as it has passed.
 fn set_rising(ways: &mut [usize])
     requires { 33 ≤ length ways.old }
     ensures { RisingWays ways.new }
 {
-    let mut file = 2;
-    while file < 11 {
+    for file in 2..11 {
         let i = file * 3;
         ways[i] = 1;
         ways[i + 1] = 0;
         ways[i + 2] = 0;
-        file += 1;
     }
 }
 
 // Whether two files pass beside these.
-fn both_pass<'a>(
-    file: u64,
-    s: &'a [u8],
-    other: u64,
-    t: &'a [u8],
-    class: &[u8; 256],
-    g1: &'a [u8],
-    g2: &'a [u8],
-    g3: &'a [u8],
-    g4: &'a [u8],
-    g5: &'a [u8],
-    g6: &'a [u8],
-    g7: &'a [u8],
-    g8: &'a [u8],
-    g9: &'a [u8],
-    g10: &'a [u8],
-    g11: &'a [u8],
-    g12: &'a [u8],
-    g13: &'a [u8],
-    order: &[u32],
-    ways: &[usize],
-) -> bool
-    requires { (2 ≤ file) × (file ≤ 7) × (2 ≤ other) × (other ≤ 7) × OrderlyFiles (thirteen g1.now g2.now g3.now g4.now g5.now g6.now g7.now g8.now g9.now g10.now g11.now g12.now g13.now) × (33 ≤ length ways.now) × RisingWays ways.now × Classes class.now }
-    ensures { result ≡ true → Passes (thirteen g1.now g2.now g3.now g4.now g5.now g6.now g7.now g8.now g9.now g10.now g11.now g12.now g13.now) file s.now × Passes (thirteen g1.now g2.now g3.now g4.now g5.now g6.now g7.now g8.now g9.now g10.now g11.now g12.now g13.now) other t.now }
+fn both_pass(file: u64, s: &[u8], other: u64, t: &[u8], files: &Files, paths: Paths) -> bool
+    requires { (2 ≤ file) × (file ≤ 7) × (2 ≤ other) × (other ≤ 7) × OrderlyFiles (batch_of files.now) × (33 ≤ length paths.ways.now) × RisingWays paths.ways.now }
+    ensures { result ≡ true → Passes (batch_of files.now) file s.now × Passes (batch_of files.now) other t.now }
 {
-    if !passes(
-        file, s, class, g1, g2, g3, g4, g5, g6, g7, g8, g9, g10, g11, g12, g13, order, ways,
-    ) {
-        return false;
-    }
-    passes(
-        other, t, class, g1, g2, g3, g4, g5, g6, g7, g8, g9, g10, g11, g12, g13, order, ways,
-    )
+    passes(file, s, files, paths) && passes(other, t, files, paths)
 }
 
-// Whether the files that are linked to pass.
-fn targets_pass<'a>(
-    f1: &'a [u8],
-    f2: &'a [u8],
-    f3: &'a [u8],
-    f4: &'a [u8],
-    f5: &'a [u8],
-    f6: &'a [u8],
-    f7: &'a [u8],
-    order: &[u32],
-    ways: &[usize],
-    class: &[u8; 256],
-) -> bool
-    requires { (33 ≤ length ways.now) × RisingWays ways.now × Classes class.now }
-    ensures { result ≡ true → TargetsPassed (targets_of f1.now f2.now f3.now f4.now f5.now f6.now f7.now) }
+// Whether the files that are linked to pass, each pair beside those that it links to.
+fn targets_pass(files: &Files, paths: Paths) -> bool
+    requires { (33 ≤ length paths.ways.now) × RisingWays paths.ways.now }
+    ensures { result ≡ true → TargetsPassed (targets_in files.now) }
 {
-    let empty = &f1[..0];
-    if !both_pass(
-        3, f3, 4, f4, class, f1, empty, empty, empty, empty, empty, empty, empty, empty, empty,
-        empty, empty, empty, order, ways,
-    ) {
-        return false;
-    }
-    if !both_pass(
-        2, f2, 5, f5, class, f1, empty, f3, f4, empty, empty, empty, empty, empty, empty, empty,
-        empty, empty, order, ways,
-    ) {
-        return false;
-    }
-    both_pass(
-        6, f6, 7, f7, class, f1, f2, f3, f4, f5, empty, empty, empty, empty, empty, empty, empty,
-        empty, order, ways,
-    )
+    let empty = &files.version[..0];
+    let none = Files {
+        version: files.version,
+        stops: empty,
+        codes: empty,
+        carriers: empty,
+        lines: empty,
+        trips: empty,
+        line_stops: empty,
+        trip_stops: empty,
+        notes: empty,
+        time_codes: empty,
+        other_carriers: empty,
+        other_lines: empty,
+        seats: empty,
+    };
+    let bases = Files {
+        codes: files.codes,
+        carriers: files.carriers,
+        ..none
+    };
+    let lines = Files {
+        stops: files.stops,
+        lines: files.lines,
+        ..bases
+    };
+    both_pass(3, files.codes, 4, files.carriers, &none, paths)
+        && both_pass(2, files.stops, 5, files.lines, &bases, paths)
+        && both_pass(6, files.trips, 7, files.line_stops, &lines, paths)
 }
 
 // Whether the others pass too.
-fn others_pass<'a>(
-    f1: &'a [u8],
-    f2: &'a [u8],
-    f3: &'a [u8],
-    f4: &'a [u8],
-    f5: &'a [u8],
-    f6: &'a [u8],
-    f7: &'a [u8],
-    f8: &'a [u8],
-    f9: &'a [u8],
-    f10: &'a [u8],
-    f11: &'a [u8],
-    f12: &'a [u8],
-    f13: &'a [u8],
-    order: &[u32],
-    ways: &[usize],
-    class: &[u8; 256],
-) -> bool
-    requires { TargetsPassed (targets_of f1.now f2.now f3.now f4.now f5.now f6.now f7.now) × (33 ≤ length ways.now) × RisingWays ways.now × Classes class.now }
-    ensures { result ≡ true → AllPassed (thirteen f1.now f2.now f3.now f4.now f5.now f6.now f7.now f8.now f9.now f10.now f11.now f12.now f13.now) }
+fn others_pass(files: &Files, paths: Paths) -> bool
+    requires { TargetsPassed (targets_in files.now) × (33 ≤ length paths.ways.now) × RisingWays paths.ways.now }
+    ensures { result ≡ true → AllPassed (batch_of files.now) }
 {
-    let empty = &f1[..0];
-    let mut file: u64 = 8;
-    while file < 14 {
-        let s = file_of(file, f1, f2, f3, f4, f5, f6, f7, f8, f9, f10, f11, f12, f13);
-        if !passes(
-            file, s, class, f1, f2, f3, f4, f5, f6, f7, empty, empty, empty, empty, empty, empty,
-            order, ways,
-        ) {
+    let empty = &files.version[..0];
+    let targets = Files {
+        trip_stops: empty,
+        notes: empty,
+        time_codes: empty,
+        other_carriers: empty,
+        other_lines: empty,
+        seats: empty,
+        ..*files
+    };
+    for file in 8..14 {
+        if !passes(file, file_of(file, files), &targets, paths) {
             return false;
         }
-        file += 1;
     }
     true
 }
 
 // inner: whether none of 1 to 9 is found and all keys rise; if so, the ways to the records
-pub fn all_pass<'a>(
-    f1: &'a [u8],
-    f2: &'a [u8],
-    f3: &'a [u8],
-    f4: &'a [u8],
-    f5: &'a [u8],
-    f6: &'a [u8],
-    f7: &'a [u8],
-    f8: &'a [u8],
-    f9: &'a [u8],
-    f10: &'a [u8],
-    f11: &'a [u8],
-    f12: &'a [u8],
-    f13: &'a [u8],
-    order: &[u32],
-    ways: &mut [usize],
-    class: &[u8; 256],
-) -> bool
-    requires { (33 ≤ length ways.old) × Classes class.now }
-    ensures { result ≡ true → Smooth (thirteen f1.now f2.now f3.now f4.now f5.now f6.now f7.now f8.now f9.now f10.now f11.now f12.now f13.now) order.now ways.new }
+pub fn all_pass(files: &Files, order: &[u32], ways: &mut [usize]) -> bool
+    requires { 33 ≤ length ways.old }
+    ensures { result ≡ true → Smooth (batch_of files.now) order.now ways.new }
 {
-    if !seem_rising(f2, f3, f4, f5, f6, f7, f8, f9, f10) {
-        return false;
-    }
-    if !is_right_version(f1) {
-        return false;
-    }
-    if !is_none(first_long(f1, f2, f3, f4, f5, f6, f7, f8, f9, f10, f11, f12, f13)) {
+    if !seem_rising(
+        files.stops,
+        files.codes,
+        files.carriers,
+        files.lines,
+        files.trips,
+        files.line_stops,
+        files.trip_stops,
+        files.notes,
+        files.time_codes,
+    ) || !is_right_version(files.version)
+        || !is_none(first_long(files))
+    {
         return false;
     }
     set_rising(ways);
-    if !targets_pass(f1, f2, f3, f4, f5, f6, f7, order, ways, class) {
-        return false;
-    }
-    others_pass(
-        f1, f2, f3, f4, f5, f6, f7, f8, f9, f10, f11, f12, f13, order, ways, class,
-    )
+    let paths = Paths { order, ways };
+    targets_pass(files, paths) && others_pass(files, paths)
 }

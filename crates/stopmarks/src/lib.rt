@@ -17,25 +17,15 @@ pub struct Marks {
     pub section: bool,
 }
 
-// One of the two is so.
-fn one_of(a: bool, b: bool) -> bool
-    ensures { result ≡ one_of a b }
-{
-    if a {
-        return true;
-    }
-    b
-}
-
 // inner: the marks when one more sign comes; 0 is none
 pub fn marked(m: Marks, sign: u8) -> Marks
     ensures { (result.dollar ≡ one_of m.dollar (eqb sign 36)) × (result.opening ≡ one_of m.opening (eqb sign 40)) × (result.closing ≡ one_of m.closing (eqb sign 41)) × (result.section ≡ one_of m.section (eqb sign 0xA7)) }
 {
     Marks {
-        dollar: one_of(m.dollar, sign == b'$'),
-        opening: one_of(m.opening, sign == b'('),
-        closing: one_of(m.closing, sign == b')'),
-        section: one_of(m.section, sign == 0xA7),
+        dollar: m.dollar || sign == b'$',
+        opening: m.opening || sign == b'(',
+        closing: m.closing || sign == b')',
+        section: m.section || sign == 0xA7,
     }
 }
 
@@ -44,9 +34,7 @@ pub fn with_dollar(own: Marks, theirs: Marks) -> Marks
     ensures { (result.dollar ≡ one_of own.dollar theirs.dollar) × (result.opening ≡ own.opening) × (result.closing ≡ own.closing) × (result.section ≡ own.section) }
 {
     Marks {
-        dollar: one_of(own.dollar, theirs.dollar),
-        opening: own.opening,
-        closing: own.closing,
-        section: own.section,
+        dollar: own.dollar || theirs.dollar,
+        ..own
     }
 }

@@ -1,5 +1,6 @@
 -- A trip's stop, put together from what the calls below say: its signs as a sum, its record, the nth of its trip's, the trip that it is of; and that
 -- all this is what its line's view says.
+use Rattle.std.specs.Prelude.{None, Option, Some}
 use mathlib.Core.Path.{◌≡◌, refl, sym, ap, subst, ◌∙◌}
 use mathlib.Core.Bool.{Bool, true, false, not}
 use mathlib.Core.List.{List, [], ◌∷◌}
@@ -19,8 +20,6 @@ use Rattle.field.specs.Kinds.{kinds, kind_of}
 use Rattle.field.specs.Names.{arrival, departure}
 use Rattle.field.specs.Values.{is_time}
 use Rattle.walk.specs.Walk.{Cuts}
-use Rattle.walk.specs.declared.Found.{Found}
-use Rattle.walk.specs.declared.Found.TheVariants.{At, Nothing}
 use Rattle.walk.proofs.WalkLaws.{cut_first}
 use Rattle.keys.specs.Keys.{key_table, key_fields, key_of, same, has, first_with, of_trip, third, none}
 use Rattle.keys.specs.Ranks.{Small, AllKeyed, record_at}
@@ -160,11 +159,11 @@ module _ (codes trips line_stops stops : List Fields) (line trip n : ℕ) where
   trip_large a h = trip_none (has_small 6 (line ∷ trip ∷ []) (λ s. let z = s.1.0 in omega arith) trips a)
 
   -- it was looked for
-  module _ {found : Found} (look : found ≡ first_with 6 (line ∷ trip ∷ []) 0 trips) where
-    pub trip_missing : found ≡ Nothing → refused 13 ≡ plain_stop codes trips line_stops stops line trip n
+  module _ {found : Option ℕ} (look : found ≡ first_with 6 (line ∷ trip ∷ []) 0 trips) where
+    pub trip_missing : found ≡ None → refused 13 ≡ plain_stop codes trips line_stops stops line trip n
     trip_missing e = trip_none (has_none 6 (line ∷ trip ∷ []) 0 trips (sym look ∙ e))
 
-    pub trip_found : (p : ℕ) → found ≡ At p → {x : Numbered} → x ≡ plain_nth codes line_stops stops line trip n
+    pub trip_found : (p : ℕ) → found ≡ Some p → {x : Numbered} → x ≡ plain_nth codes line_stops stops line trip n
         → x ≡ plain_stop codes trips line_stops stops line trip n
     unfolding plain_stop
     trip_found p e d = rw (has_found 6 (line ∷ trip ∷ []) 0 trips p (sym look ∙ e)) d

@@ -6,6 +6,7 @@ use Prim.Native.Nat.{ℕ, ◌+◌, ◌≤◌}
 use lib.Dec.{leb}
 use lib.ListN.{length, drop, drop_of_length-le}
 use borrow.Author.Tests.{le-leb}
+use Rattle.std.specs.Prelude.{Option, IfSome}
 use Rattle.laws.specs.Tests.{both_true}
 use Rattle.file.specs.Files.{is_file, fields_of}
 use Rattle.file.specs.Format.{Fields, written_record, written, Permitted}
@@ -21,7 +22,7 @@ use Rattle.rules.specs.Texts.{Kinded}
 use Rattle.walk.specs.Walk.{Parted, cut_record}
 use Rattle.walk.proofs.WalkLaws.{cut_size, none_left}
 use Rattle.readany.specs.Reads.{ReadTo}
-use Rattle.readany.proofs.PlaceLaws.{read_as}
+use Rattle.readany.proofs.PlaceLaws.{found_as}
 use Rattle.sweep.specs.Sweep.{Fielded, SoundFrom}
 
 -- a file of this number has so many fields
@@ -35,9 +36,9 @@ pub some_fields : (file n : ℕ) → Fielded file n → 1 ≤ n
 some_fields file n h = rw h.fields (file_fields file h.file_is)
 
 -- a record that was read as one of file k with m fields, where that is the file
-pub read_by : {file k n m : ℕ} {s : List ℕ} {start : ℕ} {places : List ℕ} {next : ℕ} → Fielded file n → file ≡ k → fields_of k ≡ m
-    → ReadTo k m s start places next → ReadTo file n s start places next
-read_by h e f r = read_as e (h.fields ∙ ap fields_of e ∙ f) r
+pub read_by : {file k n m : ℕ} (s : List ℕ) (start : ℕ) (places : List ℕ) (found : Option ℕ) → Fielded file n → file ≡ k → fields_of k ≡ m
+    → IfSome found (λ next. ReadTo k m s start places next) → IfSome found (λ next. ReadTo file n s start places next)
+read_by s start places found h e f r = found_as s start places found e (h.fields ∙ ap fields_of e ∙ f) r
 
 -- where no bytes are left, nothing is wrong
 pub sound_end : (file n : ℕ) (s : List ℕ) (at : ℕ) → Fielded file n → length s ≤ at → SoundFrom file n s at

@@ -2,16 +2,15 @@
 // reader, if it has one of its own, as those have that are long; the record's rules are tried while it is at hand. What is wrong, and where, is not said.
 #![tactic(auto)]
 
-ghost use Rattle.std.specs.Prelude.{◌≡◌, true, ◌≤◌, length};
-ghost use Rattle.file.specs.Reader.{Classes};
+ghost use Rattle.std.specs.Prelude.{◌≡◌, true, ◌≤◌, length, IfSome};
 ghost use Rattle.readany.specs.Reads.{ReadTo};
 ghost use Rattle.sweep.specs.Sweep.{Fielded, SoundFrom};
 
-use file::classes;
 use readany::read_any;
 use readnotes::{read_altdop, read_caskody, read_note};
 use readtrips::{read_spoje, read_zaslinky, read_zasspoje, read_zastavky};
 use rules::meets_rules;
+use walk::CutRecord;
 
 // inner: reads the record that starts at this place, as `read_any` does, by the reader of its file
 pub fn read_on(
@@ -19,22 +18,21 @@ pub fn read_on(
     s: &[u8],
     start: usize,
     n: usize,
-    class: &[u8; 256],
     places: &mut [usize; 14],
-) -> usize
-    requires { (start ≤ length s.now) × Fielded file n × Classes class.now }
-    ensures { (result ≡ 0 → ⊥) → ReadTo file n s.now start places.new result }
+) -> Option<usize>
+    requires { (start ≤ length s.now) × Fielded file n }
+    ensures { IfSome result (λ next. ReadTo file n s.now start places.new next) }
 {
     match file {
-        2 => read_zastavky(s, start, class, places),
+        2 => read_zastavky(s, start, places),
         6 => read_spoje(s, start, places),
-        7 => read_zaslinky(s, start, class, places),
-        8 => read_zasspoje(s, start, class, places),
-        9 => read_note(9, s, start, class, places),
-        10 => read_caskody(s, start, class, places),
-        11 => read_altdop(s, start, class, places),
-        13 => read_note(13, s, start, class, places),
-        _ => read_any(file, s, start, n, class, places),
+        7 => read_zaslinky(s, start, places),
+        8 => read_zasspoje(s, start, places),
+        9 => read_note(9, s, start, places),
+        10 => read_caskody(s, start, places),
+        11 => read_altdop(s, start, places),
+        13 => read_note(13, s, start, places),
+        _ => read_any(file, s, start, n, places),
     }
 }
 
@@ -43,15 +41,17 @@ pub fn is_sound(file: u64, s: &[u8], n: usize) -> bool
     requires { Fielded file n }
     ensures { result ≡ true → SoundFrom file n s.now 0 }
 {
-    let class = classes();
     let mut places: [usize; 14] = [0; 14];
     let mut at = 0;
     while at < s.len() {
-        let next = read_on(file, s, at, n, &class, &mut places);
-        if next == 0 {
+        let Some(next) = read_on(file, s, at, n, &mut places) else {
             return false;
-        }
-        if !meets_rules(file, s, &places) {
+        };
+        let row = CutRecord {
+            bytes: s,
+            places: &places,
+        };
+        if !meets_rules(file, row) {
             return false;
         }
         at = next;

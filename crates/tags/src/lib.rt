@@ -16,7 +16,7 @@ use amiss::number_of;
 use field::value_of;
 use link::Link;
 use targets::link_of;
-use walk::part;
+use walk::{CutRecord, part};
 
 // A kind and two numbers as one.
 fn tag_of(kind: u64, a: u64, x: u64) -> u64
@@ -27,19 +27,19 @@ fn tag_of(kind: u64, a: u64, x: u64) -> u64
 }
 
 // The tag of a link by the number in field f, and by `a`.
-fn number_tag(kind: u64, a: u64, file: u64, s: &[u8], places: &[usize; 14], f: u64) -> u64
-    requires { (kind ≤ 9) × (a < none) × Kinded file s.now places.now × NumberAt file f }
-    ensures { (result ≡ tag kind a (value (field f (texts file s.now places.now)))) × (value (field f (texts file s.now places.now)) < none) }
+fn number_tag(kind: u64, a: u64, file: u64, row: CutRecord, f: u64) -> u64
+    requires { (kind ≤ 9) × (a < none) × Kinded file row.bytes.now row.places.now × NumberAt file f }
+    ensures { (result ≡ tag kind a (value (field f (texts file row.entry.bytes.now row.entry.places.now)))) × (value (field f (texts file row.entry.bytes.now row.entry.places.now)) < none) }
 {
-    tag_of(kind, a, number_of(file, s, places, f))
+    tag_of(kind, a, number_of(file, row, f))
 }
 
 // That of Mistenky's trip: 0 links to nothing.
-fn seat_tag(a: u64, file: u64, s: &[u8], places: &[usize; 14], f: u64) -> u64
-    requires { (a < none) × (a ≡ value (field 1 (texts file s.now places.now))) × Kinded file s.now places.now × NumberAt file f × (f ≡ 2) × (link_of file f ≡ Link.TripOrZero) }
-    ensures { Tagged file f (texts file s.now places.now) result }
+fn seat_tag(a: u64, file: u64, row: CutRecord, f: u64) -> u64
+    requires { (a < none) × (a ≡ value (field 1 (texts file row.bytes.now row.places.now))) × Kinded file row.bytes.now row.places.now × NumberAt file f × (f ≡ 2) × (link_of file f ≡ Link.TripOrZero) }
+    ensures { Tagged file f (texts file row.entry.bytes.now row.entry.places.now) result }
 {
-    let x = number_of(file, s, places, f);
+    let x = number_of(file, row, f);
     if x == 0 {
         return 0;
     }
@@ -47,59 +47,56 @@ fn seat_tag(a: u64, file: u64, s: &[u8], places: &[usize; 14], f: u64) -> u64
 }
 
 // That of Zasspoje's second code: with its first, if that is given.
-fn second_tag(x: u64, s: &[u8], places: &[usize; 14]) -> u64
-    requires { (x < none) × (x ≡ value (field 7 (texts 8 s.now places.now))) × (length (field 7 (texts 8 s.now places.now)) ≡ 0 → ⊥) × Kinded 8 s.now places.now }
-    ensures { Tagged 8 7 (texts 8 s.now places.now) result }
+fn second_tag(x: u64, row: CutRecord) -> u64
+    requires { (x < none) × (x ≡ value (field 7 (texts 8 row.bytes.now row.places.now))) × (length (field 7 (texts 8 row.bytes.now row.places.now)) ≡ 0 → ⊥) × Kinded 8 row.bytes.now row.places.now }
+    ensures { Tagged 8 7 (texts 8 row.entry.bytes.now row.entry.places.now) result }
 {
-    let first = part(s, places, 5);
-    if first.len() == 0 {
+    let first = part(row, 5);
+    if first.is_empty() {
         return tag_of(3, 8, x);
     }
     tag_of(8, value_of(first), x)
 }
 
 // That of a code.
-fn code_tag(file: u64, s: &[u8], places: &[usize; 14], f: u64) -> u64
-    requires { (file ≤ 13) × Kinded file s.now places.now × CodeAt file f × (link_of file f ≡ Link.Code) × (length (field f (texts file s.now places.now)) ≡ 0 → ⊥) }
-    ensures { Tagged file f (texts file s.now places.now) result }
+fn code_tag(file: u64, row: CutRecord, f: u64) -> u64
+    requires { (file ≤ 13) × Kinded file row.bytes.now row.places.now × CodeAt file f × (link_of file f ≡ Link.Code) × (length (field f (texts file row.bytes.now row.places.now)) ≡ 0 → ⊥) }
+    ensures { Tagged file f (texts file row.entry.bytes.now row.entry.places.now) result }
 {
-    let x = value_of(part(s, places, (f - 1) as usize));
-    if file != 8 {
+    let x = value_of(part(row, (f - 1) as usize));
+    if file != 8 || f != 7 {
         return tag_of(3, file, x);
     }
-    if f != 7 {
-        return tag_of(3, file, x);
-    }
-    second_tag(x, s, places)
+    second_tag(x, row)
 }
 
 // The tag of what field f, which isn't empty, links to, where `a` is the number in field 1; 0 only if nothing is wrong with it.
-fn link_tag(file: u64, s: &[u8], places: &[usize; 14], f: u64, a: u64) -> u64
-    requires { (file ≤ 13) × Kinded file s.now places.now × (a < none) × (a ≡ value (field 1 (texts file s.now places.now))) × (length (field f (texts file s.now places.now)) ≡ 0 → ⊥) }
-    ensures { Tagged file f (texts file s.now places.now) result }
+fn link_tag(file: u64, row: CutRecord, f: u64, a: u64) -> u64
+    requires { (file ≤ 13) × Kinded file row.bytes.now row.places.now × (a < none) × (a ≡ value (field 1 (texts file row.bytes.now row.places.now))) × (length (field f (texts file row.bytes.now row.places.now)) ≡ 0 → ⊥) }
+    ensures { Tagged file f (texts file row.entry.bytes.now row.entry.places.now) result }
 {
     match link_of(file, f) {
         Link::Free => 0,
-        Link::Line => number_tag(5, 0, file, s, places, f),
-        Link::Stop => number_tag(2, 0, file, s, places, f),
-        Link::Carrier => number_tag(4, 0, file, s, places, f),
-        Link::Trip => number_tag(6, a, file, s, places, f),
-        Link::TripOrZero => seat_tag(a, file, s, places, f),
-        Link::LineStop => number_tag(7, a, file, s, places, f),
-        Link::Code => code_tag(file, s, places, f),
+        Link::Line => number_tag(5, 0, file, row, f),
+        Link::Stop => number_tag(2, 0, file, row, f),
+        Link::Carrier => number_tag(4, 0, file, row, f),
+        Link::Trip => number_tag(6, a, file, row, f),
+        Link::TripOrZero => seat_tag(a, file, row, f),
+        Link::LineStop => number_tag(7, a, file, row, f),
+        Link::Code => code_tag(file, row, f),
     }
 }
 
 // inner: the same, with a look first whether the field is empty, as most codes are: then nothing is wrong with it, whatever it is
-pub fn tag_at(file: u64, s: &[u8], places: &[usize; 14], f: u64, a: u64) -> u64
-    requires { (file ≤ 13) × Kinded file s.now places.now × (a < none) × (a ≡ value (field 1 (texts file s.now places.now))) × (1 ≤ f) × (f ≤ fields_of file) }
-    ensures { Tagged file f (texts file s.now places.now) result }
+pub fn tag_at(file: u64, row: CutRecord, f: u64, a: u64) -> u64
+    requires { (file ≤ 13) × Kinded file row.bytes.now row.places.now × (a < none) × (a ≡ value (field 1 (texts file row.bytes.now row.places.now))) × (1 ≤ f) × (f ≤ fields_of file) }
+    ensures { Tagged file f (texts file row.entry.bytes.now row.entry.places.now) result }
 {
-    let text = part(s, places, (f - 1) as usize);
-    if text.len() == 0 {
+    let text = part(row, (f - 1) as usize);
+    if text.is_empty() {
         return 0;
     }
-    link_tag(file, s, places, f, a)
+    link_tag(file, row, f, a)
 }
 
 // inner: the first field of a file that has a link, or one before it: those that stand before have none
@@ -109,9 +106,7 @@ pub fn first_link(file: u64) -> u64
     match file {
         2 => 7,
         5 => 3,
-        8 => 2,
-        10 => 2,
-        11 => 2,
+        8 | 10 | 11 => 2,
         _ => 1,
     }
 }

@@ -8,25 +8,16 @@ ghost use Rattle.file.specs.Records.{records_in};
 ghost use Rattle.keys.specs.KeyFiles.{KeyFile};
 ghost use Rattle.tally.specs.Feeds.{feeds};
 
-// A byte as a number.
-fn wide(x: u8) -> usize
-    ensures { result ≡ x }
-{
-    x as usize
-}
-
 // The LFs of a part. They are few enough for a byte, which lets the machine count many at once.
 fn line_feeds(s: &[u8]) -> u8
     requires { length s.now ≤ 240 }
     ensures { result ≡ feeds s.now }
 {
     let mut n: u8 = 0;
-    let mut i = 0;
-    while i < s.len() {
-        if s[i] == 10 {
+    for b in s {
+        if *b == b'\n' {
             n += 1;
         }
-        i += 1;
     }
     n
 }
@@ -39,8 +30,8 @@ pub fn count(file: u64, s: &[u8]) -> usize
     let mut n = 0;
     let mut at = 0;
     while s.len() - at >= 240 {
-        n += wide(line_feeds(&s[at..at + 240]));
+        n += line_feeds(&s[at..at + 240]) as usize;
         at += 240;
     }
-    n + wide(line_feeds(&s[at..]))
+    n + line_feeds(&s[at..]) as usize
 }

@@ -4,7 +4,7 @@
 
 ghost use Rattle.std.specs.Prelude.{◌≡◌, ◌∷◌, get_or};
 ghost use Rattle.link.specs.Links.{zastavky, linky, spoje, zaslinky, zasspoje, udaje, caskody, altdop, altlinky, mistenky, links_in, link_of};
-ghost use Rattle.link.specs.Signs.{is_in, is_permitted};
+ghost use Rattle.link.specs.Signs.{is_permitted};
 
 use link::Link;
 
@@ -145,30 +145,16 @@ pub fn links_in(file: u64) -> u64
     }
 }
 
-// Whether a byte stands in a list.
-fn is_in(x: u8, list: &[u8]) -> bool
-    ensures { result ≡ is_in x list.now }
-{
-    let mut i = 0;
-    while i < list.len() {
-        if list[i] == x {
-            return true;
-        }
-        i += 1;
-    }
-    false
-}
-
 // inner: whether a sign may stand in this file's codes
 pub fn is_permitted(file: u64, sign: u8) -> bool
     ensures { result ≡ is_permitted file sign }
 {
     match file {
-        2 => is_in(sign, b"@%Wwx~}v"),
-        6 => is_in(sign, b"X+1234567R#@%I{[Os"),
-        7 => is_in(sign, b"()x\xA7$"),
-        8 => is_in(sign, b"()x\xA7"),
-        11 => is_in(sign, b"X+1234567"),
+        2 => b"@%Wwx~}v".contains(&sign),
+        6 => b"X+1234567R#@%I{[Os".contains(&sign),
+        7 => b"()x\xA7$".contains(&sign),
+        8 => b"()x\xA7".contains(&sign),
+        11 => b"X+1234567".contains(&sign),
         _ => false,
     }
 }

@@ -1,42 +1,47 @@
-// The thirteen files of a batch: document 01, "The batch". They are lent as thirteen slices of one lifetime.
+// The thirteen files of a batch: document 01, "The batch". They are lent together.
 #![tactic(auto)]
 
 ghost use Rattle.std.specs.Prelude.{◌≡◌};
-ghost use Rattle.thirteen.specs.Batch.{thirteen, file_in};
+ghost use Rattle.thirteen.specs.Batch.{file_in};
+ghost use Rattle.thirteen.specs.Lent.{batch_of};
+
+// The thirteen files, by what they hold; beside each its name in JDF.
+#[derive(Clone, Copy)]
+pub struct Files<'a> {
+    pub version: &'a [u8], // VerzeJDF
+    pub stops: &'a [u8], // Zastavky
+    pub codes: &'a [u8], // Pevnykod
+    pub carriers: &'a [u8], // Dopravci
+    pub lines: &'a [u8], // Linky
+    pub trips: &'a [u8], // Spoje
+    pub line_stops: &'a [u8], // Zaslinky
+    pub trip_stops: &'a [u8], // Zasspoje
+    pub notes: &'a [u8], // Udaje
+    pub time_codes: &'a [u8], // Caskody
+    pub other_carriers: &'a [u8], // Altdop
+    pub other_lines: &'a [u8], // Altlinky
+    pub seats: &'a [u8], // Mistenky
+}
 
 // inner: a file by its number; an empty one where there is no such file
-pub fn file_of<'a>(
-    file: u64,
-    f1: &'a [u8],
-    f2: &'a [u8],
-    f3: &'a [u8],
-    f4: &'a [u8],
-    f5: &'a [u8],
-    f6: &'a [u8],
-    f7: &'a [u8],
-    f8: &'a [u8],
-    f9: &'a [u8],
-    f10: &'a [u8],
-    f11: &'a [u8],
-    f12: &'a [u8],
-    f13: &'a [u8],
-) -> &'a [u8]
-    ensures { result.now ≡ file_in (thirteen f1.now f2.now f3.now f4.now f5.now f6.now f7.now f8.now f9.now f10.now f11.now f12.now f13.now) file }
+#[tactic(auto, unfolding(crate::specs::Batch::file_in))]
+pub fn file_of<'a>(file: u64, files: &Files<'a>) -> &'a [u8]
+    ensures { result.now ≡ file_in (batch_of files.now) file }
 {
     match file {
-        1 => f1,
-        2 => f2,
-        3 => f3,
-        4 => f4,
-        5 => f5,
-        6 => f6,
-        7 => f7,
-        8 => f8,
-        9 => f9,
-        10 => f10,
-        11 => f11,
-        12 => f12,
-        13 => f13,
-        _ => &f1[..0],
+        1 => files.version,
+        2 => files.stops,
+        3 => files.codes,
+        4 => files.carriers,
+        5 => files.lines,
+        6 => files.trips,
+        7 => files.line_stops,
+        8 => files.trip_stops,
+        9 => files.notes,
+        10 => files.time_codes,
+        11 => files.other_carriers,
+        12 => files.other_lines,
+        13 => files.seats,
+        _ => &files.version[..0],
     }
 }

@@ -1,4 +1,5 @@
 -- The sale question, put together from what the calls below say: a stop's record, the two stops, the trip that they are of, the day.
+use Rattle.std.specs.Prelude.{None, Option, Some}
 use mathlib.Core.Path.{◌≡◌, refl, sym, ap, ◌∙◌}
 use mathlib.Core.Bool.{Bool, true, false, not}
 use mathlib.Core.List.{List, [], ◌∷◌}
@@ -11,13 +12,10 @@ use Rattle.laws.specs.Numbered.{Numbered, answered, refused}
 use Rattle.calendar.specs.Answers.{numbered_day, day_answer}
 use Rattle.dates.specs.Dates.{is_date, day_number}
 use Rattle.calendar.proofs.Laws.{number_is_day}
-use Rattle.calendar.specs.declared.Day.{Day}
 use Rattle.file.specs.Files.{fields_of}
 use Rattle.file.specs.Format.{Fields}
 use Rattle.file.specs.Records.{records_in}
 use Rattle.walk.specs.Walk.{Cuts}
-use Rattle.walk.specs.declared.Found.{Found}
-use Rattle.walk.specs.declared.Found.TheVariants.{At, Nothing}
 use Rattle.walk.proofs.WalkLaws.{cut_first}
 use Rattle.lines.proofs.OrderLaws.{found_place}
 use Rattle.keys.specs.Keys.{key_table, key_fields, key_of, same, has, first_with, third, none}
@@ -95,12 +93,12 @@ module _ (s : List ℕ) (f : KeyFile 8 s) (line trip tariff : ℕ) where
   stop_large h = stop_none line trip tariff h (records_in (fields_of 8) s) f.keys
 
   -- it was looked for
-  module _ {found : Found} (look : found ≡ first_with 8 (line ∷ trip ∷ tariff ∷ []) 0 (records_in (fields_of 8) s)) where
-    pub stop_missing : found ≡ Nothing → has 8 (line ∷ trip ∷ tariff ∷ []) (records_in (fields_of 8) s) ≡ false
+  module _ {found : Option ℕ} (look : found ≡ first_with 8 (line ∷ trip ∷ tariff ∷ []) 0 (records_in (fields_of 8) s)) where
+    pub stop_missing : found ≡ None → has 8 (line ∷ trip ∷ tariff ∷ []) (records_in (fields_of 8) s) ≡ false
     stop_missing d = has_none 8 (line ∷ trip ∷ tariff ∷ []) 0 (records_in (fields_of 8) s) (sym look ∙ d)
 
-    module _ (p : ℕ) (d : found ≡ At p) where
-      there : first_with 8 (line ∷ trip ∷ tariff ∷ []) 0 (records_in (fields_of 8) s) ≡ At p
+    module _ (p : ℕ) (d : found ≡ Some p) where
+      there : first_with 8 (line ∷ trip ∷ tariff ∷ []) 0 (records_in (fields_of 8) s) ≡ Some p
       there = sym look ∙ d
 
       pub stop_met : has 8 (line ∷ trip ∷ tariff ∷ []) (records_in (fields_of 8) s) ≡ true
@@ -135,8 +133,8 @@ module _ (codes lines line_stops stops times : List Fields) (p : Fields) (line t
     to_placed h i j = rw (e, ← g, not-false t h, i) j
 
 -- THE DATE, where its number was asked for: it isn't real, or the number is its day's.
-module _ (date month year : ℕ) {f : Day} (e : numbered_day f ≡ day_answer date month year) where
-  pub date_none : f ≡ Day.NotReal → is_date date month year ≡ false
+module _ (date month year : ℕ) {f : Option ℕ} (e : numbered_day f ≡ day_answer date month year) where
+  pub date_none : f ≡ None → is_date date month year ≡ false
   unfolding numbered_day day_answer
   date_none k =
       let z : refused 12 ≡ pick (is_date date month year) (answered (day_number date month year ∷ [])) (refused 12) = rw k at e in
@@ -144,7 +142,7 @@ module _ (date month year : ℕ) {f : Day} (e : numbered_day f ≡ day_answer da
       (λ t. let n : ◌≡◌ {A = ℕ} 12 0 = ap (λ (a : Numbered). a.number) (rw t at z) in absurd (omega arith))
       (λ t. t)
 
-  module _ (d : ℕ) (k : f ≡ Day.At d) where
+  module _ (d : ℕ) (k : f ≡ Some d) where
     pub date_day : (is_date date month year ≡ true) × (d ≡ day_number date month year)
     unfolding numbered_day day_answer
     date_day =

@@ -1,4 +1,5 @@
 -- The sale question as the code goes about it, on the records of each file, is on a batch that stands the one on the line's view.
+use Rattle.std.specs.Prelude.{None, Option, Some}
 use mathlib.Core.Path.{◌≡◌, refl, sym, ap, ◌∙◌}
 use mathlib.Core.Bool.{Bool, true}
 use mathlib.Core.List.{List, [], ◌∷◌}
@@ -11,8 +12,6 @@ use Rattle.laws.specs.Tests.{pick, both, either, clash, both_left, both_right, b
 use Rattle.laws.specs.Numbered.{refused}
 use Rattle.dates.specs.Dates.{day_number}
 use Rattle.file.specs.Format.{Fields}
-use Rattle.walk.specs.declared.Found.{Found}
-use Rattle.walk.specs.declared.Found.TheVariants.{At, Nothing}
 use Rattle.keys.specs.Keys.{key_of, same, has, first_with, of_trip, third}
 use Rattle.keys.proofs.KeyLaws.{same_equal, has_none}
 use Rattle.link.specs.Met.{number, Stands}
@@ -67,13 +66,13 @@ module _ (b : Batch) (stands : Standing b) (line trip : ℕ) where
       ≡ runs_on (view_of b line) trip holidays d
   trip_runs holidays d h = go (first_with 6 (line ∷ trip ∷ []) 0 (records_of b 6)) refl
     where
-      go : (f : Found) → first_with 6 (line ∷ trip ∷ []) 0 (records_of b 6) ≡ f
+      go : (f : Option ℕ) → first_with 6 (line ∷ trip ∷ []) 0 (records_of b 6) ≡ f
           → plain_runs (records_of b 3) (records_of b 5) (records_of b 10) line trip (trip_record (records_of b 6) line trip) holidays d
           ≡ runs_on (view_of b line) trip holidays d
-      go (At p) e =
+      go (Some p) e =
           let l = (stands.sound 6 (omega arith) (omega arith)).legal in
           rw (trip_found (file_in b 6) line trip p l e) (plain_runs_lem b line trip p l e holidays d)
-      go Nothing e = clash h (has_none 6 (line ∷ trip ∷ []) 0 (records_of b 6) e)
+      go None e = clash h (has_none 6 (line ∷ trip ∷ []) 0 (records_of b 6) e)
 
   -- THE STOPS. A tariff number is in the view exactly if it is among the trip's records in travel order.
   stop_some : (tariff : ℕ) → some (λ r. eqb (third 8 r) tariff) (ours b line trip) ≡ has_stop (view_of b line) trip tariff

@@ -1,6 +1,6 @@
 -- The walk along a trip's time codes: what is left of them at each place, and what the lists and the marks come to.
 use mathlib.Core.Path.{◌≡◌, refl, sym, ap, ◌∙◌}
-use mathlib.Core.Bool.{Bool, true, false}
+use mathlib.Core.Bool.{Bool, true, false, not}
 use mathlib.Core.List.{List, [], ◌∷◌, ◌++◌}
 use Prim.Native.Nat.{ℕ, ◌+◌, ◌≤◌, ◌<◌}
 use native.Mathlib.Omega.{arith}
@@ -35,10 +35,6 @@ with_none : (t : Bool) → t ≡ one_of t false
 with_none true = refl
 with_none false = refl
 
-with_one : (t : Bool) → true ≡ one_of t true
-with_one true = refl
-with_one false = refl
-
 -- THE MARKS.
 -- one more time code comes
 module _ (first : ℕ) (differ : Bool) (r : Fields) where
@@ -59,16 +55,10 @@ module _ (first : ℕ) (differ : Bool) (r : Fields) where
     unfolding first_mark differs_from
     mark_first z = rw (ne_eqb (type_of r) 0 n, eq-eqb first 0 z) (e, with_none differ)
 
-    module _ (z : first ≡ 0 → ⊥) where
-      -- it bears the mark of the first
-      pub mark_same : found ≡ first → Marked first differ
-      unfolding first_mark differs_from
-      mark_same h = rw (ne_eqb (type_of r) 0 n, ne_eqb first 0 z, eq-eqb (value (mark r)) first (sym e ∙ h)) (refl, with_none differ)
-
-      -- it bears another
-      pub mark_other : (found ≡ first → ⊥) → Marked first true
-      unfolding first_mark differs_from
-      mark_other h = rw (ne_eqb (type_of r) 0 n, ne_eqb first 0 z, ne_eqb (value (mark r)) first (λ g. h (e ∙ g))) (refl, with_one differ)
+    -- it comes behind the first, and bears its mark or another
+    pub mark_next : (first ≡ 0 → ⊥) → Marked first (one_of differ (not (eqb found first)))
+    unfolding first_mark differs_from
+    mark_next z = rw (ne_eqb (type_of r) 0 n, ne_eqb first 0 z, e) (refl, refl)
 
 -- THE WALK.
 -- the trip's time codes, by rising number

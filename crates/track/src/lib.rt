@@ -1,9 +1,9 @@
 // A trip's stops in travel order, one after another: refusal 11 by one pass that never looks ahead.
 #![tactic(auto)]
 
-ghost use Rattle.std.specs.Prelude.{◌≡◌, not, eqb};
-ghost use Rattle.laws.specs.Tests.{pick, both, one_of};
-ghost use Rattle.track.specs.Track.{set_out, timed_on, untimed_on, track_on, minute_on, time_on, length_on, course_ends};
+ghost use Rattle.std.specs.Prelude.{◌≡◌, eqb, leb};
+ghost use Rattle.laws.specs.Tests.{pick};
+ghost use Rattle.track.specs.Track.{set_out, timed_on, untimed_on, track_on, time_on, length_on, course_ends};
 
 // What a record says.
 #[derive(Clone, Copy)]
@@ -39,6 +39,7 @@ pub struct Track {
 }
 
 // inner: nothing has come yet
+#[tactic(auto, unfolding(crate::specs::Track::set_out))]
 pub fn set_out() -> Track
     ensures { result ≡ set_out }
 {
@@ -53,38 +54,26 @@ pub fn set_out() -> Track
 }
 
 // Whether a record with a time may come now.
+#[tactic(auto, unfolding(crate::specs::Track::timed_on))]
 fn may_come(c: Track, v: Visit) -> bool
     ensures { result ≡ (timed_on c v).fits }
 {
-    if !c.fits {
-        return false;
-    }
     if c.seen == 0 {
-        if !v.departs {
-            return false;
-        }
-        if v.arrives {
-            return false;
-        }
-        return v.kilometre == 0;
+        c.fits && v.departs && !v.arrives && v.kilometre == 0
+    } else {
+        c.fits && c.departs && !c.blank
     }
-    if !c.departs {
-        return false;
-    }
-    !c.blank
 }
 
 // How many had a time, with one more: 1, or 2 for more.
 fn one_more(seen: u64) -> u64
     ensures { result ≡ pick (eqb seen 0) 1 2 }
 {
-    if seen == 0 {
-        return 1;
-    }
-    2
+    if seen == 0 { 1 } else { 2 }
 }
 
 // A record with a time comes.
+#[tactic(auto, unfolding(crate::specs::Track::timed_on))]
 fn timed_on(c: Track, v: Visit) -> Track
     ensures { result ≡ timed_on c v }
 {
@@ -98,113 +87,66 @@ fn timed_on(c: Track, v: Visit) -> Track
     }
 }
 
-fn and_not(a: bool, b: bool) -> bool
-    ensures { result ≡ both a (not b) }
-{
-    if a {
-        return !b;
-    }
-    false
-}
-
-fn or(a: bool, b: bool) -> bool
-    ensures { result ≡ one_of a b }
-{
-    if a {
-        return true;
-    }
-    b
-}
-
 // A record without one comes.
+#[tactic(auto, unfolding(crate::specs::Track::untimed_on))]
 fn untimed_on(c: Track, v: Visit) -> Track
     ensures { result ≡ untimed_on c v }
 {
     if c.seen == 0 {
         return Track {
-            seen: c.seen,
-            departs: c.departs,
-            arrives: c.arrives,
-            passed: c.passed,
-            blank: c.blank,
-            fits: and_not(c.fits, v.passes),
+            fits: c.fits && !v.passes,
+            ..c
         };
     }
     Track {
-        seen: c.seen,
-        departs: c.departs,
-        arrives: c.arrives,
-        passed: or(c.passed, v.passes),
-        blank: or(c.blank, v.blank),
-        fits: c.fits,
+        passed: c.passed || v.passes,
+        blank: c.blank || v.blank,
+        ..c
     }
 }
 
 // inner: a record comes
+#[tactic(auto, unfolding(crate::specs::Track::track_on))]
 pub fn track_on(c: Track, v: Visit) -> Track
     ensures { result ≡ track_on c v }
 {
-    if or(v.arrives, v.departs) {
+    if v.arrives || v.departs {
         return timed_on(c, v);
     }
     untimed_on(c, v)
 }
 
-// The last minute, or 1440 if it fell.
-fn minute_on(last: u64, timed: bool, minute: u64) -> u64
-    ensures { result ≡ minute_on last timed minute }
+// The last of numbers that may not fall: the next, if it is given, or `fallen` if it fell.
+fn risen(last: u64, given: bool, next: u64, fallen: u64) -> u64
+    ensures { result ≡ pick given (pick (leb last next) next fallen) last }
 {
-    if !timed {
+    if !given {
         return last;
     }
-    if last <= minute {
-        return minute;
-    }
-    1440
+    if last <= next { next } else { fallen }
 }
 
-// inner: the same behind a record, arrival before departure
+// inner: the last minute behind a record, arrival before departure, or 1440 if it fell
+#[tactic(auto, unfolding(crate::specs::Track::time_on, crate::specs::Track::minute_on))]
 pub fn time_on(last: u64, v: Visit) -> u64
     ensures { result ≡ time_on last v }
 {
-    minute_on(
-        minute_on(last, v.arrives, v.arrival),
-        v.departs,
-        v.departure,
-    )
+    let arrived = risen(last, v.arrives, v.arrival, 1440);
+    risen(arrived, v.departs, v.departure, 1440)
 }
 
 // inner: the last kilometre behind a record, or 1000000000 if it fell
+#[tactic(auto, unfolding(crate::specs::Track::length_on))]
 pub fn length_on(last: u64, v: Visit) -> u64
     ensures { result ≡ length_on last v }
 {
-    if !v.measured {
-        return last;
-    }
-    if last <= v.kilometre {
-        return v.kilometre;
-    }
-    1000000000
+    risen(last, v.measured, v.kilometre, 1000000000)
 }
 
 // inner: whether nothing was wrong, once all records have come
+#[tactic(auto, unfolding(crate::specs::Track::course_ends, crate::specs::Track::track_ends))]
 pub fn course_ends(c: Track, time: u64, length: u64) -> bool
     ensures { result ≡ course_ends c time length }
 {
-    if !c.fits {
-        return false;
-    }
-    if c.seen != 2 {
-        return false;
-    }
-    if !c.arrives {
-        return false;
-    }
-    if c.passed {
-        return false;
-    }
-    if time >= 1440 {
-        return false;
-    }
-    length < 1000000000
+    c.fits && c.seen == 2 && c.arrives && !c.passed && time < 1440 && length < 1000000000
 }

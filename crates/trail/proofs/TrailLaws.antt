@@ -1,5 +1,6 @@
 -- A walk along a trip's records by their numbers comes to each of them in its order: the record that a step finds is the first of those that
 -- are ahead, and behind it stand those that are ahead of it.
+use Rattle.std.specs.Prelude.{None, Option, Some}
 use mathlib.Core.Path.{◌≡◌, refl, sym, ap, subst, ◌∙◌}
 use mathlib.Core.Bool.{Bool, true, false}
 use mathlib.Core.List.{List, [], ◌∷◌, ◌++◌, append-nil}
@@ -15,8 +16,6 @@ use Rattle.file.specs.Format.{Fields}
 use Rattle.file.specs.Records.{records_in}
 use Rattle.file.proofs.RecordLaws.{legible}
 use Rattle.walk.specs.Walk.{LegalFrom}
-use Rattle.walk.specs.declared.Found.{Found}
-use Rattle.walk.specs.declared.Found.TheVariants.{At, Nothing}
 use Rattle.lines.specs.Lines.{behind, Place}
 use Rattle.lines.proofs.LineLaws.{place_on, place_start, next_at}
 use Rattle.lines.proofs.OrderLaws.{found_place}
@@ -392,7 +391,7 @@ module _ (file : ℕ) (s : List ℕ) (line trip : ℕ) (f : KeyFile file s) (cou
   mine = upward file line trip all
 
   -- where the record with such a key is found, it stands
-  arrives_at : (y at : ℕ) → y < none → first_with file (line ∷ trip ∷ y ∷ []) 0 all ≡ At at → Arrives file s line trip y at
+  arrives_at : (y at : ℕ) → y < none → first_with file (line ∷ trip ∷ y ∷ []) 0 all ≡ Some at → Arrives file s line trip y at
   arrives_at y at h e =
       let k = line ∷ trip ∷ y ∷ [] in
       let r = record_at file s at in
@@ -415,9 +414,9 @@ module _ (file : ℕ) (s : List ℕ) (line trip : ℕ) (f : KeyFile file s) (cou
   unfolding place_of
   arrives y at h e z = go (first_with file (line ∷ trip ∷ y ∷ []) 0 all) refl z
     where
-      go : (w : Found) → first_with file (line ∷ trip ∷ y ∷ []) 0 all ≡ w → at ≡ place_of s w → Arrives file s line trip y at
-      go (At p) d g = rw g (arrives_at y p h d)
-      go Nothing d g = clash e (has_none file (line ∷ trip ∷ y ∷ []) 0 all d)
+      go : (w : Option ℕ) → first_with file (line ∷ trip ∷ y ∷ []) 0 all ≡ w → at ≡ place_of s w → Arrives file s line trip y at
+      go (Some p) d g = rw g (arrives_at y p h d)
+      go None d g = clash e (has_none file (line ∷ trip ∷ y ∷ []) 0 all d)
 
   -- no record is ahead
   ends : (up : Bool) (x at : ℕ) → at ≡ length s → ahead file up x mine ≡ [] → Comes file s up line trip x at
@@ -483,7 +482,7 @@ module _ (file : ℕ) (s : List ℕ) (line trip : ℕ) (f : KeyFile file s) (cou
         either (eqb y 0)
         (λ u.
         let e = eqb-true y 0 u in
-        let d : previous_of file line trip x all ≡ Nothing = rw u in
+        let d : previous_of file line trip x all ≡ None = rw u in
         let past = all_then (λ r. third file r < x → third file r + 1 ≤ y) (λ r. ltb (third file r) x ≡ false)
         (λ r g. either (ltb (third file r) x) (λ v. absurd (omega (arith, g (ltb-true (third file r) x v)))) (λ v. v)) mine most in
         ends false x at (z ∙ ap (place_of s) d) (ap backward (select_none (λ r. ltb (third file r) x) mine past)))

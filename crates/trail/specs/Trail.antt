@@ -1,12 +1,10 @@
 -- A trip's records one after another, by their numbers: upward, or downward from the greatest. `x` is the number that a walk has come to: upward
 -- the records from x on are ahead, downward those below x.
-use Rattle.std.specs.Prelude.{ℕ, ◌+◌, ◌≤◌, ◌<◌, ◌≡◌, Bool, true, false, List, [], ◌∷◌, ltb, leb, length}
+use Rattle.std.specs.Prelude.{ℕ, ◌+◌, ◌≤◌, ◌<◌, ◌≡◌, Bool, true, false, List, [], ◌∷◌, ltb, leb, length, None, Option, Some}
 use Rattle.laws.specs.Tests.{pick}
 use Rattle.file.specs.Files.{fields_of}
 use Rattle.file.specs.Format.{Fields}
 use Rattle.file.specs.Records.{records_in}
-use Rattle.walk.specs.declared.Found.{Found}
-use Rattle.walk.specs.declared.Found.TheVariants.{At, Nothing}
 use Rattle.lines.specs.Lines.{behind}
 use Rattle.keys.specs.Keys.{key_fields, key_of, has, of_trip, third, none, next_of}
 use Rattle.keys.specs.KeyFiles.{PlaceIn}
@@ -35,7 +33,7 @@ abbrev pub after : Bool → ℕ → ℕ
 after up y = pick up (y + 1) y
 
 -- the place of the next record that is ahead
-unfoldable pub step_of : ℕ → Bool → ℕ → ℕ → ℕ → List Fields → Found
+unfoldable pub step_of : ℕ → Bool → ℕ → ℕ → ℕ → List Fields → Option ℕ
 step_of file up line trip x rs = pick up (next_of file line trip x rs) (previous_of file line trip x rs)
 
 -- no two of these records have one key
@@ -44,9 +42,9 @@ Once file [] = Unit
 Once file (r ∷ rs) = (has file (key_of file r) rs ≡ false) × Once file rs
 
 -- a place where a walk may stand: that of a record, or the end of the file
-unfoldable pub place_of : List ℕ → Found → ℕ
-place_of s (At at) = at
-place_of s Nothing = length s
+unfoldable pub place_of : List ℕ → Option ℕ → ℕ
+place_of s (Some at) = at
+place_of s None = length s
 
 -- what a walk along a file's records asks: the way to them, keys of three numbers, a place that is tried first
 pub record Walks (file : ℕ) (s order ways : List ℕ) (last : ℕ) : Type 0 where

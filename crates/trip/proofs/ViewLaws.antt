@@ -1,4 +1,5 @@
 -- What a line's view says of a trip, as the batch's own records say it: its record, its signs, its time codes, its stops, and what is wrong with it.
+use Rattle.std.specs.Prelude.{None, Option, Some}
 use mathlib.Core.Path.{◌≡◌, refl, sym, ap, ◌∙◌}
 use mathlib.Core.Bool.{Bool, true, false}
 use mathlib.Core.List.{List, [], ◌∷◌, ◌++◌}
@@ -11,8 +12,6 @@ use Rattle.file.specs.Files.{fields_of}
 use Rattle.file.specs.Format.{Fields, written_record}
 use Rattle.file.specs.Records.{records_in}
 use Rattle.walk.specs.Walk.{LegalFrom}
-use Rattle.walk.specs.declared.Found.{Found}
-use Rattle.walk.specs.declared.Found.TheVariants.{At, Nothing}
 use Rattle.lines.proofs.LineLaws.{size_one, place_on, place_start}
 use Rattle.keys.specs.Keys.{key_table, key_fields, numbers, key_of, same, has, first_with, of_trip, third}
 use Rattle.keys.specs.Ranks.{record_at}
@@ -199,12 +198,12 @@ first_once file (a ∷ past) r rest o =
     (λ t. rw t (first_once file past r rest o.1))
 
 -- A record found by its key: the place where it is, or one beside p where there is none.
-abbrev at_place : ℕ → Found → ℕ
-at_place p (At at) = at
-at_place p Nothing = p + 1
+abbrev at_place : ℕ → Option ℕ → ℕ
+at_place p (Some at) = at
+at_place p None = p + 1
 
 module _ (file : ℕ) (s k : List ℕ) (p : ℕ) where
-  first_from_lem : (at : ℕ) (rs : List Fields) → PlaceIn file s at → records_from file s at ≡ rs → first_with file k at rs ≡ At p
+  first_from_lem : (at : ℕ) (rs : List Fields) → PlaceIn file s at → records_from file s at ≡ rs → first_with file k at rs ≡ Some p
       → first_or [] (λ q. same (key_of file q) k) rs ≡ record_at file s p
   unfolding first_or first_with
   first_from_lem at [] h e d =
@@ -213,7 +212,7 @@ module _ (file : ℕ) (s k : List ℕ) (p : ℕ) where
   first_from_lem at (r ∷ rs) h e d =
       either (same (key_of file r) k)
       (λ t.
-      let c : At at ≡ At p = rw t at d in
+      let c : Some at ≡ Some p = rw t at d in
       let z : at ≡ p = ap (at_place p) c in
       rw (t, ← z, e))
       (λ t.
@@ -221,7 +220,7 @@ module _ (file : ℕ) (s k : List ℕ) (p : ℕ) where
       rw t (first_from_lem (at + length (written_record r)) rs w.place w.left (rw t at d)))
 
   -- the first record with a key, where it is found at a place, is the record that starts there
-  pub first_found : LegalFrom (fields_of file) s 0 → first_with file k 0 (records_in (fields_of file) s) ≡ At p
+  pub first_found : LegalFrom (fields_of file) s 0 → first_with file k 0 (records_in (fields_of file) s) ≡ Some p
       → first_or [] (λ q. same (key_of file q) k) (records_in (fields_of file) s) ≡ record_at file s p
   first_found l d = first_from_lem 0 (records_in (fields_of file) s) (place_start (fields_of file) s l) refl d
 
@@ -231,7 +230,7 @@ unfolding key_fields key_table numbers same
 found_fields line trip q = both_held (eqb (number 1 q) line) (eqb (number 2 q) trip)
 
 -- a Spoje record that is found by its line and number is the view's trip of that number, with its signs
-pub view_trip_found : (b : Batch) (line trip p : ℕ) → LegalFrom (fields_of 6) (file_in b 6) 0 → first_with 6 (line ∷ trip ∷ []) 0 (records_of b 6) ≡ At p
+pub view_trip_found : (b : Batch) (line trip p : ℕ) → LegalFrom (fields_of 6) (file_in b 6) 0 → first_with 6 (line ∷ trip ∷ []) 0 (records_of b 6) ≡ Some p
     → (r : Fields) → r ≡ record_at 6 (file_in b 6) p → trip_of (view_of b line) trip ≡ record { texts = r; signs = trip_signs b r }
 view_trip_found b line trip p l d r e =
     view_trip_first b line trip r

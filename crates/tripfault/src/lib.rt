@@ -3,7 +3,6 @@
 
 ghost use Rattle.std.specs.Prelude.{◌≡◌};
 ghost use Rattle.file.specs.Files.{fields_of};
-ghost use Rattle.file.specs.Reader.{Classes};
 ghost use Rattle.file.specs.Records.{records_in};
 ghost use Rattle.field.specs.Names.{time_codes_file, trip_stops_file};
 ghost use Rattle.keys.specs.KeyFiles.{PlaceIn};
@@ -15,8 +14,9 @@ ghost use Rattle.tripfault.specs.Plain.{plain_fault};
 
 use calling::stops_fit;
 use field::value_of;
+use lookup::Paths;
 use running::days_fit;
-use walk::part;
+use walk::{CutRecord, part};
 
 // What is wrong with a trip, 10, 11 or 0, and where its last time code and its last stop stand, each with the entry of an index that was looked
 // at last: the next trip's are looked for there first.
@@ -44,34 +44,19 @@ pub fn none_tried() -> Tried
 
 // inner: what is wrong with the trip whose record was cut; `last` is what was found of the one before
 pub fn trip_fault(
-    f6: &[u8],
-    places: &[usize; 14],
+    row: CutRecord,
     f3: &[u8],
     f8: &[u8],
     f10: &[u8],
-    order: &[u32],
-    ways: &[usize],
+    paths: Paths,
     last: Tried,
-    class: &[u8; 256],
 ) -> Tried
-    requires { Kinded trips_file f6.now places.now × Ready codes_file f3.now order.now ways.now × Ready trip_stops_file f8.now order.now ways.now × Ready time_codes_file f10.now order.now ways.now × PlaceIn time_codes_file f10.now last.code × PlaceIn trip_stops_file f8.now last.stop × Classes class.now }
-    ensures { (result.fault ≡ plain_fault (records_in (fields_of codes_file) f3.now) (records_in (fields_of trip_stops_file) f8.now) (records_in (fields_of time_codes_file) f10.now) (texts trips_file f6.now places.now)) × PlaceIn time_codes_file f10.now result.code × PlaceIn trip_stops_file f8.now result.stop }
+    requires { Kinded trips_file row.bytes.now row.places.now × Ready codes_file f3.now paths.order.now paths.ways.now × Ready trip_stops_file f8.now paths.order.now paths.ways.now × Ready time_codes_file f10.now paths.order.now paths.ways.now × PlaceIn time_codes_file f10.now last.code × PlaceIn trip_stops_file f8.now last.stop }
+    ensures { (result.fault ≡ plain_fault (records_in (fields_of codes_file) f3.now) (records_in (fields_of trip_stops_file) f8.now) (records_in (fields_of time_codes_file) f10.now) (texts trips_file row.entry.bytes.now row.entry.places.now)) × PlaceIn time_codes_file f10.now result.code × PlaceIn trip_stops_file f8.now result.stop }
 {
-    let line = value_of(part(f6, places, 0));
-    let trip = value_of(part(f6, places, 1));
-    let d = days_fit(
-        f6,
-        places,
-        line,
-        trip,
-        f3,
-        f10,
-        order,
-        ways,
-        last.code,
-        last.code_entry,
-        class,
-    );
+    let line = value_of(part(row, 0));
+    let trip = value_of(part(row, 1));
+    let d = days_fit(row, line, trip, f3, f10, paths, last.code, last.code_entry);
     if !d.fit {
         return Tried {
             fault: 10,
@@ -81,19 +66,10 @@ pub fn trip_fault(
             stop_entry: last.stop_entry,
         };
     }
-    let s = stops_fit(
-        f8,
-        order,
-        ways,
-        last.stop,
-        last.stop_entry,
-        line,
-        trip,
-        class,
-    );
+    let s = stops_fit(f8, paths, last.stop, last.stop_entry, line, trip);
     let fault = if s.fit { 0 } else { 11 };
     Tried {
-        fault: fault,
+        fault,
         code: d.last,
         code_entry: d.entry,
         stop: s.last,

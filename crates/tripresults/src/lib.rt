@@ -53,6 +53,7 @@ fn plain_runs(number: u64, runs: u64) -> RunsResult
 }
 
 // inner: document 01's number, place and value of an answer.
+#[tactic(auto, using(crate::proofs::RefusedLaws::refused_runs), unfolding(outcome::specs::Answers::numbered_runs, crate::specs::Results::runs_result))]
 pub fn runs_handed(answer: Running) -> RunsResult
     ensures { result ≡ runs_result (numbered_runs answer) }
 {
@@ -98,6 +99,7 @@ fn no_stop(number: u64, file: u64, row: u64, column: u64, offset: u64) -> TripSt
 }
 
 // inner: document 01's number, place and values of an answer.
+#[tactic(auto, using(crate::proofs::RefusedLaws::refused_stop), unfolding(outcome::specs::Answers::numbered_stop, outcome::specs::Answers::halt_numbers, crate::specs::Results::stop_result))]
 pub fn stop_handed(answer: Stop) -> TripStopResult
     ensures { result ≡ stop_result (numbered_stop answer) }
 {

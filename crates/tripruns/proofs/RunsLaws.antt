@@ -1,5 +1,6 @@
 -- What is found by its key is a record that starts there, a record of Linky that is found by a line is that line's, and the two ends of its validity
 -- are dates.
+use Rattle.std.specs.Prelude.{None, Some}
 use mathlib.Core.Path.{◌≡◌, refl, sym, ◌∙◌}
 use mathlib.Core.Bool.{Bool, true, false}
 use mathlib.Core.List.{List, [], ◌∷◌}
@@ -16,7 +17,6 @@ use Rattle.field.specs.Kinds.{kind_of, kinds, linky, admits}
 use Rattle.field.specs.Names.{lines_file}
 use Rattle.field.specs.Values.{is_date_text, day_of_text}
 use Rattle.walk.specs.Walk.{LegalFrom, Cuts, part_of}
-use Rattle.walk.specs.declared.Found.TheVariants.{At, Nothing}
 use Rattle.walk.proofs.WalkLaws.{cut_first}
 use Rattle.lines.proofs.OrderLaws.{found_place}
 use Rattle.rules.specs.Texts.{Kinded}
@@ -35,7 +35,7 @@ use Rattle.trip.proofs.ViewLaws.{first_same, first_found}
 
 -- what is found by a key: a record starts there
 found_here : (file : ℕ) (s k : List ℕ) (p : ℕ) → KeyFile file s → Small k → length k ≡ length (key_fields file)
-    → first_with file k 0 (records_in (fields_of file) s) ≡ At p → PlaceIn file s p × (p < length s)
+    → first_with file k 0 (records_in (fields_of file) s) ≡ Some p → PlaceIn file s p × (p < length s)
 found_here file s k p f small size e =
     let rs = records_in (fields_of file) s in
     let h = found_place (fields_of file) (rank_of file) s (rank k) p f.legal (sym (first_with_lem file k f.keyed small size 0 rs f.keys) ∙ e) in
@@ -43,17 +43,17 @@ found_here file s k p f small size e =
 
 -- so by a line in Linky, and by a line and a trip's number in Spoje
 pub found_line : (s : List ℕ) (line p : ℕ) → KeyFile lines_file s → line < none
-    → first_with lines_file (line ∷ []) 0 (records_in (fields_of lines_file) s) ≡ At p → PlaceIn lines_file s p × (p < length s)
+    → first_with lines_file (line ∷ []) 0 (records_in (fields_of lines_file) s) ≡ Some p → PlaceIn lines_file s p × (p < length s)
 unfolding Small key_fields key_table
 found_line s line p f h e = found_here lines_file s (line ∷ []) p f (h, tt) refl e
 
 pub found_trip : (s : List ℕ) (line trip p : ℕ) → KeyFile trips_file s → line < none → trip < none
-    → first_with trips_file (line ∷ trip ∷ []) 0 (records_in (fields_of trips_file) s) ≡ At p → PlaceIn trips_file s p × (p < length s)
+    → first_with trips_file (line ∷ trip ∷ []) 0 (records_in (fields_of trips_file) s) ≡ Some p → PlaceIn trips_file s p × (p < length s)
 unfolding Small key_fields key_table
 found_trip s line trip p f h l e = found_here trips_file s (line ∷ trip ∷ []) p f (h, (l, tt)) refl e
 
 -- a key that a record has isn't missed
-pub found_some : {P : Type 0} (file : ℕ) (k : List ℕ) (at : ℕ) (rs : List Fields) → has file k rs ≡ true → first_with file k at rs ≡ Nothing → P
+pub found_some : {P : Type 0} (file : ℕ) (k : List ℕ) (at : ℕ) (rs : List Fields) → has file k rs ≡ true → first_with file k at rs ≡ None → P
 found_some file k at rs t e = clash t (has_none file k at rs e)
 
 -- a test beside one that holds
@@ -67,7 +67,7 @@ unfolding key_fields key_table numbers same
 line_field line q = held (eqb (number 1 q) line)
 
 -- so the record that is found by a line is the line's first
-pub line_found : (s : List ℕ) (line p : ℕ) → LegalFrom (fields_of lines_file) s 0 → first_with lines_file (line ∷ []) 0 (records_in (fields_of lines_file) s) ≡ At p
+pub line_found : (s : List ℕ) (line p : ℕ) → LegalFrom (fields_of lines_file) s 0 → first_with lines_file (line ∷ []) 0 (records_in (fields_of lines_file) s) ≡ Some p
     → first_or [] (of_line line) (records_in (fields_of lines_file) s) ≡ record_at lines_file s p
 line_found s line p l e =
     first_same [] (of_line line) (λ q. same (key_of lines_file q) (line ∷ [])) (line_field line) (records_in (fields_of lines_file) s)

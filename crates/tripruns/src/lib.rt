@@ -3,7 +3,6 @@
 
 ghost use Rattle.std.specs.Prelude.{◌≡◌, true, [], ◌∷◌, ◌≤◌, ◌<◌, length};
 ghost use Rattle.file.specs.Files.{fields_of};
-ghost use Rattle.file.specs.Reader.{Classes};
 ghost use Rattle.file.specs.Records.{records_in};
 ghost use Rattle.field.specs.Names.{lines_file, time_codes_file};
 ghost use Rattle.keys.specs.Keys.{none, has};
@@ -19,30 +18,32 @@ ghost use Rattle.trips.specs.Plain.{plain_runs};
 
 use byway::by_one;
 use field::day_of;
+use lookup::Paths;
 use running::allowed_on;
-use walk::{Found, cut, part};
+use walk::{CutRecord, cut, part};
 
 // Whether day d is within the validity of the line whose record starts at a place: fields 9 and 10.
-fn valid_at(f5: &[u8], at: usize, order: &[u32], ways: &[usize], class: &[u8; 256], d: u64) -> bool
-    requires { Ready lines_file f5.now order.now ways.now × PlaceIn lines_file f5.now at × (at < length f5.now) × Classes class.now }
+fn valid_at(f5: &[u8], at: usize, paths: Paths, d: u64) -> bool
+    requires { Ready lines_file f5.now paths.order.now paths.ways.now × PlaceIn lines_file f5.now at × (at < length f5.now) }
     ensures { result ≡ is_valid (record_at lines_file f5.now at) d }
 {
     let mut places: [usize; 14] = [0; 14];
-    cut(f5, at, 10, class, &mut places);
-    if d < day_of(part(f5, &places, 8)) {
-        return false;
-    }
-    d <= day_of(part(f5, &places, 9))
+    cut(f5, at, 10, &mut places);
+    let row = CutRecord {
+        bytes: f5,
+        places: &places,
+    };
+    day_of(part(row, 8)) <= d && d <= day_of(part(row, 9))
 }
 
 // Whether day d is within the validity of a line that there is.
-fn valid_on(line: u64, f5: &[u8], order: &[u32], ways: &[usize], class: &[u8; 256], d: u64) -> bool
-    requires { (line < none) × Ready lines_file f5.now order.now ways.now × (has lines_file (line ∷ []) (records_in (fields_of lines_file) f5.now) ≡ true) × Classes class.now }
+fn valid_on(line: u64, f5: &[u8], paths: Paths, d: u64) -> bool
+    requires { (line < none) × Ready lines_file f5.now paths.order.now paths.ways.now × (has lines_file (line ∷ []) (records_in (fields_of lines_file) f5.now) ≡ true) }
     ensures { result ≡ is_valid (first_or [] (of_line line) (records_in (fields_of lines_file) f5.now)) d }
 {
-    match by_one(5, f5, order, ways, line) {
-        Found::At(at) => valid_at(f5, at, order, ways, class, d),
-        Found::Nothing => false,
+    match by_one(5, f5, paths, line) {
+        Some(at) => valid_at(f5, at, paths, d),
+        None => false,
     }
 }
 
@@ -55,21 +56,21 @@ pub fn trip_runs(
     f5: &[u8],
     f6: &[u8],
     f10: &[u8],
-    order: &[u32],
-    ways: &[usize],
-    class: &[u8; 256],
+    paths: Paths,
     d: u64,
     holidays: &[u64],
 ) -> bool
-    requires { PlaceIn trips_file f6.now at × (at < length f6.now) × (line < none) × (trip < none) × Ready codes_file f3.now order.now ways.now × Ready lines_file f5.now order.now ways.now × (has lines_file (line ∷ []) (records_in (fields_of lines_file) f5.now) ≡ true) × Ready trips_file f6.now order.now ways.now × Ready time_codes_file f10.now order.now ways.now × Classes class.now × (d ≤ 73048) }
+    requires { PlaceIn trips_file f6.now at × (at < length f6.now) × (line < none) × (trip < none) × Ready codes_file f3.now paths.order.now paths.ways.now × Ready lines_file f5.now paths.order.now paths.ways.now × (has lines_file (line ∷ []) (records_in (fields_of lines_file) f5.now) ≡ true) × Ready trips_file f6.now paths.order.now paths.ways.now × Ready time_codes_file f10.now paths.order.now paths.ways.now × (d ≤ 73048) }
     ensures { result ≡ plain_runs (records_in (fields_of codes_file) f3.now) (records_in (fields_of lines_file) f5.now) (records_in (fields_of time_codes_file) f10.now) line trip (record_at trips_file f6.now at) holidays.now d }
 {
-    if !valid_on(line, f5, order, ways, class, d) {
+    if !valid_on(line, f5, paths, d) {
         return false;
     }
     let mut places: [usize; 14] = [0; 14];
-    cut(f6, at, 12, class, &mut places);
-    allowed_on(
-        f6, &places, line, trip, f3, f10, order, ways, class, d, holidays,
-    )
+    cut(f6, at, 12, &mut places);
+    let row = CutRecord {
+        bytes: f6,
+        places: &places,
+    };
+    allowed_on(row, line, trip, f3, f10, paths, d, holidays)
 }

@@ -1,5 +1,6 @@
 -- The stage as the code goes about it finds what document 01 says: where no two trips have one key, each record of Spoje is its line's trip of its
 -- number.
+use Rattle.std.specs.Prelude.{Some}
 use mathlib.Core.Path.{◌≡◌, refl, sym, ap, ◌∙◌}
 use mathlib.Core.Bool.{Bool}
 use mathlib.Core.List.{List, [], ◌∷◌, ◌++◌}
@@ -9,7 +10,6 @@ use Rattle.laws.specs.Numbered.{Numbered}
 use Rattle.file.specs.Files.{fields_of}
 use Rattle.file.specs.Format.{Fields}
 use Rattle.walk.specs.Walk.{LegalFrom}
-use Rattle.walk.specs.declared.Found.TheVariants.{At}
 use Rattle.keys.specs.Keys.{first_with}
 use Rattle.keys.specs.Ranks.{record_at}
 use Rattle.field.specs.Names.{lines_file, time_codes_file, trip_stops_file}
@@ -61,7 +61,7 @@ valid_line b line d t = refl
 
 -- and a trip that is found by its key runs when its line's view says so
 pub plain_runs_lem : (b : Batch) (line trip p : ℕ) → LegalFrom (fields_of trips_file) (file_in b trips_file) 0
-    → first_with trips_file (line ∷ trip ∷ []) 0 (records_of b trips_file) ≡ At p → (holidays : List ℕ) (d : ℕ)
+    → first_with trips_file (line ∷ trip ∷ []) 0 (records_of b trips_file) ≡ Some p → (holidays : List ℕ) (d : ℕ)
     → plain_runs (records_of b codes_file) (records_of b lines_file) (records_of b time_codes_file) line trip (record_at trips_file (file_in b trips_file) p) holidays d
     ≡ runs_on (view_of b line) trip holidays d
 unfolding plain_runs runs_on trip_signs sign_of

@@ -4,7 +4,6 @@
 ghost use Rattle.std.specs.Prelude.{◌≡◌, true, []};
 ghost use Rattle.laws.specs.Numbered.{answered};
 ghost use Rattle.file.specs.Files.{fields_of};
-ghost use Rattle.file.specs.Reader.{Classes};
 ghost use Rattle.file.specs.Records.{records_in};
 ghost use Rattle.field.specs.Names.{time_codes_file, trip_stops_file};
 ghost use Rattle.link.specs.Signs.{codes_file};
@@ -14,9 +13,9 @@ ghost use Rattle.trips.specs.Answers.{numbered_timed};
 ghost use Rattle.trips.specs.Plain.{plain_from};
 
 use ahead::{list_goes_on, walk_goes_on};
-use lookup::index_of;
+use lookup::{Paths, index_of};
 use tripfault::{Tried, none_tried, trip_fault};
-use walk::cut;
+use walk::{CutRecord, cut};
 
 // What the stage finds.
 #[derive(Clone, Copy)]
@@ -30,16 +29,8 @@ pub enum Timed {
 }
 
 // The first trip whose days or stops are wrong, gone through in the order of the records of Spoje.
-fn first_wrong(
-    f3: &[u8],
-    f6: &[u8],
-    f8: &[u8],
-    f10: &[u8],
-    order: &[u32],
-    ways: &[usize],
-    class: &[u8; 256],
-) -> Timed
-    requires { Ready codes_file f3.now order.now ways.now × Ready trips_file f6.now order.now ways.now × Ready trip_stops_file f8.now order.now ways.now × Ready time_codes_file f10.now order.now ways.now × Classes class.now }
+fn first_wrong(f3: &[u8], f6: &[u8], f8: &[u8], f10: &[u8], paths: Paths) -> Timed
+    requires { Ready codes_file f3.now paths.order.now paths.ways.now × Ready trips_file f6.now paths.order.now paths.ways.now × Ready trip_stops_file f8.now paths.order.now paths.ways.now × Ready time_codes_file f10.now paths.order.now paths.ways.now }
     ensures { numbered_timed result ≡ plain_from (records_in (fields_of codes_file) f3.now) (records_in (fields_of trip_stops_file) f8.now) (records_in (fields_of time_codes_file) f10.now) 1 (records_in (fields_of trips_file) f6.now) }
 {
     let mut places: [usize; 14] = [0; 14];
@@ -47,8 +38,12 @@ fn first_wrong(
     let mut at: usize = 0;
     let mut tried = none_tried();
     while at < f6.len() {
-        let next = cut(f6, at, 12, class, &mut places);
-        tried = trip_fault(f6, &places, f3, f8, f10, order, ways, tried, class);
+        let next = cut(f6, at, 12, &mut places);
+        let row = CutRecord {
+            bytes: f6,
+            places: &places,
+        };
+        tried = trip_fault(row, f3, f8, f10, paths, tried);
         if tried.fault == 10 {
             return Timed::Days(k);
         }
@@ -72,68 +67,50 @@ fn goes_on(
     codes: &[u32],
     tried: Tried,
 ) -> bool {
-    if !list_goes_on(f6, trips, i) {
-        return false;
-    }
-    if !walk_goes_on(f8, stops, tried.stop_entry) {
-        return false;
-    }
-    walk_goes_on(f10, codes, tried.code_entry)
+    list_goes_on(f6, trips, i)
+        && walk_goes_on(f8, stops, tried.stop_entry)
+        && walk_goes_on(f10, codes, tried.code_entry)
 }
 
 // Whether nothing is wrong with any trip, gone through in the order of the index of Spoje, where a trip's stops and time codes stand beside those of
 // the trip before; false too where there is no index.
-fn none_wrong(
-    f3: &[u8],
-    f6: &[u8],
-    f8: &[u8],
-    f10: &[u8],
-    order: &[u32],
-    ways: &[usize],
-    class: &[u8; 256],
-) -> bool
-    requires { Ready codes_file f3.now order.now ways.now × Ready trips_file f6.now order.now ways.now × Ready trip_stops_file f8.now order.now ways.now × Ready time_codes_file f10.now order.now ways.now × Classes class.now }
+fn none_wrong(f3: &[u8], f6: &[u8], f8: &[u8], f10: &[u8], paths: Paths) -> bool
+    requires { Ready codes_file f3.now paths.order.now paths.ways.now × Ready trips_file f6.now paths.order.now paths.ways.now × Ready trip_stops_file f8.now paths.order.now paths.ways.now × Ready time_codes_file f10.now paths.order.now paths.ways.now }
     ensures { result ≡ true → plain_from (records_in (fields_of codes_file) f3.now) (records_in (fields_of trip_stops_file) f8.now) (records_in (fields_of time_codes_file) f10.now) 1 (records_in (fields_of trips_file) f6.now) ≡ answered [] }
 {
-    let part = index_of(order, ways, 6);
-    if part.len() == 0 {
+    let part = index_of(paths, 6);
+    if part.is_empty() {
         return false;
     }
-    let stops = index_of(order, ways, 8);
-    let codes = index_of(order, ways, 10);
+    let stops = index_of(paths, 8);
+    let codes = index_of(paths, 10);
     let mut places: [usize; 14] = [0; 14];
-    let mut i = 0;
     let mut tried = none_tried();
-    while i < part.len() {
+    for (i, at) in part.iter().enumerate() {
         if !goes_on(f6, part, i, f8, stops, f10, codes, tried) {
             return false;
         }
-        cut(f6, part[i] as usize, 12, class, &mut places);
-        tried = trip_fault(f6, &places, f3, f8, f10, order, ways, tried, class);
+        cut(f6, *at as usize, 12, &mut places);
+        let row = CutRecord {
+            bytes: f6,
+            places: &places,
+        };
+        tried = trip_fault(row, f3, f8, f10, paths, tried);
         if tried.fault != 0 {
             return false;
         }
-        i += 1;
     }
     true
 }
 
 // inner: the first trip whose days or stops are wrong, 10 before 11 trip by trip. Of the batch's files, Pevnykod, Spoje, Zasspoje and Caskody are
 // asked for.
-pub fn trips_fault(
-    f3: &[u8],
-    f6: &[u8],
-    f8: &[u8],
-    f10: &[u8],
-    order: &[u32],
-    ways: &[usize],
-    class: &[u8; 256],
-) -> Timed
-    requires { Ready codes_file f3.now order.now ways.now × Ready trips_file f6.now order.now ways.now × Ready trip_stops_file f8.now order.now ways.now × Ready time_codes_file f10.now order.now ways.now × Classes class.now }
+pub fn trips_fault(f3: &[u8], f6: &[u8], f8: &[u8], f10: &[u8], paths: Paths) -> Timed
+    requires { Ready codes_file f3.now paths.order.now paths.ways.now × Ready trips_file f6.now paths.order.now paths.ways.now × Ready trip_stops_file f8.now paths.order.now paths.ways.now × Ready time_codes_file f10.now paths.order.now paths.ways.now }
     ensures { numbered_timed result ≡ plain_from (records_in (fields_of codes_file) f3.now) (records_in (fields_of trip_stops_file) f8.now) (records_in (fields_of time_codes_file) f10.now) 1 (records_in (fields_of trips_file) f6.now) }
 {
-    if none_wrong(f3, f6, f8, f10, order, ways, class) {
+    if none_wrong(f3, f6, f8, f10, paths) {
         return Timed::Sound;
     }
-    first_wrong(f3, f6, f8, f10, order, ways, class)
+    first_wrong(f3, f6, f8, f10, paths)
 }

@@ -42,6 +42,7 @@ fn place_at(number: u64, file: u64, offset: u64) -> Place
 }
 
 // A file's own refusal.
+#[tactic(auto, unfolding(file::specs::Answers::numbered))]
 fn file_place(why: Refusal) -> Place
     ensures { numbered_place result ≡ numbered why }
 {
@@ -56,6 +57,7 @@ fn file_place(why: Refusal) -> Place
 }
 
 // Document 01's number and place of a fault.
+#[tactic(auto, unfolding(fault::specs::Answers::numbered_fault))]
 fn place_of(fault: Fault) -> Place
     ensures { numbered_place result ≡ numbered_fault fault }
 {

@@ -1,4 +1,4 @@
-// Weekdays and ISO weeks (document 01, "Days"). All of it is inner: what each function means is its definition in specs/Weeks.antt.
+// Weekdays and ISO weeks. All of it is inner: what each function means is its definition in specs/Weeks.antt.
 #![tactic(auto)]
 
 ghost use Rattle.std.specs.Prelude.{◌≡◌, ◌≤◌};

@@ -1,10 +1,10 @@
 -- Which line thirteen files have.
 use mathlib.Core.Path.{◌≡◌, sym, ap, ◌∙◌}
-use mathlib.Core.Bool.{Bool, true, false, not}
+use mathlib.Core.Bool.{Bool, true, false}
 use mathlib.Core.List.{List}
 use Prim.Native.Nat.{ℕ}
 use native.Mathlib.Omega.{arith}
-use borrow.Author.Tests.{eqb-false, not-true, not-false}
+use borrow.Author.Tests.{eqb-false}
 use lib.Dec.{eqb, leb}
 use lib.ListN.{length}
 use Rattle.laws.specs.Tests.{either}
@@ -26,11 +26,11 @@ verdict_judged b =
 
 module _ (b : Batch) (t : Bool) (e : t ≡ leb (bytes_together b) 61440) where
   -- too many bytes
-  pub many_line : not t ≡ true → program_line b ≡ too_large
+  pub many_line : t ≡ false → program_line b ≡ too_large
   unfolding program_line
-  many_line h = rw (sym e ∙ not-true t h)
+  many_line h = rw (sym e ∙ h)
 
   -- few enough
-  pub few_line : not t ≡ false → program_line b ≡ verdict_line (verdict_of b)
+  pub few_line : t ≡ true → program_line b ≡ verdict_line (verdict_of b)
   unfolding program_line
-  few_line h = rw (sym e ∙ not-false t h)
+  few_line h = rw (sym e ∙ h)

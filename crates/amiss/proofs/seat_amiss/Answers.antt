@@ -1,7 +1,8 @@
 -- `amiss::seat_amiss` meets its contract: trip 0 links to nothing, and any other is looked for.
 use mathlib.Core.Path.{refl, sym, ◌∙◌}
 use native.Mathlib.Omega.{arith}
-use Rattle.thirteen.specs.Batch.{Batch, thirteen}
+use Rattle.thirteen.specs.Batch.{Batch}
+use Rattle.thirteen.specs.Lent.{batch_of}
 use Rattle.keys.specs.Keys.{key_fields, key_table}
 use Rattle.rules.specs.Texts.{texts}
 use Rattle.amiss.proofs.AmissLaws.{seat_zero, seat_trip}
@@ -13,11 +14,10 @@ number_of-requires c =
 
 pub returns-then-number_of-eq0 : goal.returns-then-number_of-eq0
 returns-then-number_of-eq0 c =
-    let files : Batch =
-    let a = c.args in thirteen a.f1.now a.f2.now a.f3.now a.f4.now a.f5.now a.f6.now a.f7.now a.f8.now a.f9.now a.f10.now a.f11.now a.f12.now a.f13.now in
+    let files : Batch = batch_of c.args.files.now in
     let a = c.args in
     let z = sym c.number_of.ensures.0 ∙ c.if-number_of-eq0.true in
-    (seat_zero files a.file a.f (texts a.file a.s.now a.places.now) z, c.requires.0.known.looks.lasts)
+    (seat_zero files a.file a.f (texts a.file a.row.bytes.now a.row.places.now) z, c.requires.0.known.looks.lasts)
 
 pub two_amiss-requires : goal.two_amiss-requires
 unfolding key_fields key_table
@@ -26,10 +26,9 @@ two_amiss-requires c =
 
 pub returns : goal.returns
 returns c =
-    let files : Batch =
-    let a = c.args in thirteen a.f1.now a.f2.now a.f3.now a.f4.now a.f5.now a.f6.now a.f7.now a.f8.now a.f9.now a.f10.now a.f11.now a.f12.now a.f13.now in
+    let files : Batch = batch_of c.args.files.now in
     let a = c.args in
-    let r = texts a.file a.s.now a.places.now in
+    let r = texts a.file a.row.bytes.now a.row.places.now in
     let e =
     seat_trip files a.file a.f r (λ z. c.if-number_of-eq0.false (c.number_of.ensures.0 ∙ z)) c.requires.3 in
     (c.two_amiss.ensures.0 ∙ e, c.two_amiss.ensures.1)

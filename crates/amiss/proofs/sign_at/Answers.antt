@@ -14,7 +14,7 @@ use Rattle.amiss.proofs.sign_at.Goals as goal
 pub cut-requires : goal.cut-requires
 unfolding fields_of field_counts
 cut-requires c =
-    ((key_here 3 _ _ c.requires.0 c.requires.2 c.requires.3).here, c.requires.4)
+    (key_here 3 _ _ c.requires.0 c.requires.2 c.requires.3).here
 
 pub part-sign-requires : goal.part-sign-requires
 part-sign-requires c = c.cut.ensures.parted 1 (omega arith)

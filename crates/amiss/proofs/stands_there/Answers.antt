@@ -2,11 +2,7 @@
 use mathlib.Core.Path.{sym, ◌∙◌}
 use native.Mathlib.Omega.{arith}
 use borrow.Author.Tests.{eqb-true}
-use Rattle.laws.specs.Tests.{never}
 use Rattle.amiss.proofs.stands_there.Goals as goal
 
 pub returns-then-at-s : goal.returns-then-at-s
-returns-then-at-s c = λ e. never e
-
-pub returns : goal.returns
-returns c = λ e. (omega arith, sym c.stop_at.ensures ∙ eqb-true _ _ e)
+returns-then-at-s c = λ e. (omega arith, sym c.stop_at.ensures ∙ eqb-true _ _ e)

@@ -13,7 +13,7 @@ use Rattle.amiss.proofs.stop_at.Goals as goal
 pub cut-requires : goal.cut-requires
 unfolding fields_of field_counts
 cut-requires c =
-    ((key_here 7 _ _ c.requires.0 c.requires.2 c.requires.3).here, c.requires.4)
+    (key_here 7 _ _ c.requires.0 c.requires.2 c.requires.3).here
 
 pub part-requires : goal.part-requires
 part-requires c = c.cut.ensures.parted 3 (omega arith)

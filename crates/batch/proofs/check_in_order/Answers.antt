@@ -6,7 +6,8 @@ use native.Mathlib.Omega.{arith}
 use Rattle.laws.specs.Numbered.{Numbered}
 use Rattle.links.proofs.KeyedLaws.{sound_keys}
 use Rattle.amiss.specs.Sound.{SoundFiles}
-use Rattle.thirteen.specs.Batch.{Batch, thirteen}
+use Rattle.thirteen.specs.Batch.{Batch}
+use Rattle.thirteen.specs.Lent.{batch_of}
 use Rattle.overfiles.proofs.FileLaws.{legal_files}
 use Rattle.filestages.specs.Order.{file_stages}
 use Rattle.batch.specs.Order.{stages, fault_of}
@@ -18,37 +19,29 @@ use Rattle.batch.proofs.check_in_order.Goals as goal
 pub returns-then-not-is_none : goal.returns-then-not-is_none
 unfolding fault_of stages file_stages
 returns-then-not-is_none c =
-    let files : Batch =
-    let a = c.args in thirteen a.f1.now a.f2.now a.f3.now a.f4.now a.f5.now a.f6.now a.f7.now a.f8.now a.f9.now a.f10.now a.f11.now a.f12.now a.f13.now in
+    let files : Batch = batch_of c.args.files.now in
     let e = stages_stop _ _ c.is_none.ensures 4 (stages files) c.check_files-fault.ensures (ap not c.if-not-is_none.true) in
     (e, λ z. absurd (is_some _ _ c.is_none.ensures (ap not c.if-not-is_none.true) (ap (λ (a : Numbered). a.number) (e ∙ z))))
 
 pub survey-requires : goal.survey-requires
 unfolding stages file_stages
 survey-requires c =
-    let files : Batch =
-    let a = c.args in thirteen a.f1.now a.f2.now a.f3.now a.f4.now a.f5.now a.f6.now a.f7.now a.f8.now a.f9.now a.f10.now a.f11.now a.f12.now a.f13.now in
-    let sound : SoundFiles files =
-    let b = files in
-    let z = stages_zero _ _ c.is_none.ensures 4 (stages b) c.check_files-fault.ensures (ap not c.if-not-is_none.false) in
-    sound_files b (legal_files b (z 1 (omega arith))) (z 3 (omega arith)) in
-    (c.requires.0, sound_keys _ sound)
+    let files : Batch = batch_of c.args.files.now in
+    let z = stages_zero _ _ c.is_none.ensures 4 (stages files) c.check_files-fault.ensures (ap not c.if-not-is_none.false) in
+    let sound : SoundFiles files = sound_files files (legal_files files (z 1 (omega arith))) (z 3 (omega arith)) in
+    (c.requires, sound_keys _ sound)
 
 pub check_records-requires : goal.check_records-requires
 unfolding stages file_stages
 check_records-requires c =
-    let files : Batch =
-    let a = c.args in thirteen a.f1.now a.f2.now a.f3.now a.f4.now a.f5.now a.f6.now a.f7.now a.f8.now a.f9.now a.f10.now a.f11.now a.f12.now a.f13.now in
-    let sound : SoundFiles files =
-    let b = files in
-    let z = stages_zero _ _ c.is_none.ensures 4 (stages b) c.check_files-fault.ensures (ap not c.if-not-is_none.false) in
-    sound_files b (legal_files b (z 1 (omega arith))) (z 3 (omega arith)) in
+    let files : Batch = batch_of c.args.files.now in
+    let z = stages_zero _ _ c.is_none.ensures 4 (stages files) c.check_files-fault.ensures (ap not c.if-not-is_none.false) in
+    let sound : SoundFiles files = sound_files files (legal_files files (z 1 (omega arith))) (z 3 (omega arith)) in
     let p = c.requires in
-    (sound, omega (arith, c.survey.auto.ways, p.0), c.survey.ensures, p.1)
+    (sound, omega (arith, c.survey.auto.ways, p), c.survey.ensures)
 
 pub returns : goal.returns
 unfolding fault_of stages file_stages
 returns c =
-    let files : Batch =
-    let a = c.args in thirteen a.f1.now a.f2.now a.f3.now a.f4.now a.f5.now a.f6.now a.f7.now a.f8.now a.f9.now a.f10.now a.f11.now a.f12.now a.f13.now in
+    let files : Batch = batch_of c.args.files.now in
     (c.check_records.ensures ∙ sym (stages_past _ _ c.is_none.ensures 4 (stages files) c.check_files-fault.ensures (ap not c.if-not-is_none.false)), λ z. c.survey.ensures)

@@ -4,7 +4,7 @@ use Rattle.keys.proofs.KeyFileLaws.{key_here}
 use Rattle.bisection.proofs.SoughtLaws.{start}
 use Rattle.bisection.proofs.first_key.Goals as goal
 
-pub key_at-k-requires : goal.key_at-k-requires
-key_at-k-requires c =
+pub key_at-requires : goal.key_at-requires
+key_at-requires c =
     let a = c.args in
     key_here a.file a.s.now 0 c.requires.0 (start a.file a.s.now c.requires.0) (omega (arith, c.requires.1))

@@ -1,6 +1,5 @@
 -- `bisection::narrow` meets its contract. The loop's invariant: the answer is that of the records from `lo` on.
 use mathlib.Core.Path.{◌∙◌}
-use Prim.Native.Nat.{◌-◌}
 use native.Mathlib.Omega.{arith}
 use Rattle.bisection.proofs.narrow.Goals as goal
 

@@ -1,6 +1,5 @@
 -- `bisection::scan` meets its contract. The loop's invariant: the answer is that of the records from `at` on.
 use mathlib.Core.Path.{sym, ◌∙◌}
-use Prim.Native.Nat.{◌-◌}
 use native.Mathlib.Omega.{arith}
 use borrow.Author.Tests.{ltb-true, ltb-false}
 use Rattle.keys.specs.Ranks.{rank_key}

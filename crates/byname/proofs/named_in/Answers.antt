@@ -17,13 +17,13 @@ use Rattle.byname.proofs.named_in.Goals as goal
 
 pub loop-at-init : goal.loop-at-init
 loop-at-init c =
-    (omega arith, place_start (fields_of 2) c.args.f2.now c.requires.0.key.legal, refl)
+    (omega arith, place_start (fields_of 2) c.args.f2.now c.requires.key.legal, refl)
 
 pub cut-next-requires : goal.cut-next-requires
 unfolding fields_of field_counts
 cut-next-requires c =
     let a = c.args in
-    (left_here 2 a.f2.now a.order.now a.ways.now c.requires.0 _ c.loop-at.invariant.1 c.loop-at-test.true, c.requires.1)
+    left_here 2 a.f2.now a.paths.order.now a.paths.ways.now c.requires _ c.loop-at.invariant.1 c.loop-at-test.true
 
 pub value_of-requires : goal.value_of-requires
 unfolding fields_of field_counts
@@ -32,7 +32,7 @@ value_of-requires c =
     c.args.f2.now in
     let kinded : Kinded 2 file c.cut-next.new.places =
     let a = c.args in
-    left_kinded 2 file a.order.now a.ways.now c.requires.0 _ c.loop-at.invariant.1 c.loop-at-test.true c.cut-next.ensures in
+    left_kinded 2 file a.paths.order.now a.paths.ways.now c.requires _ c.loop-at.invariant.1 c.loop-at-test.true c.cut-next.ensures in
     let n = number_part kinded 1 c.part.ensures stop_key in
     (n.digits, n.most)
 
@@ -49,7 +49,7 @@ loop-at-preserved-then-is_named c =
     c.args.f2.now in
     let kinded : Kinded 2 file c.cut-next.new.places =
     let a = c.args in
-    left_kinded 2 file a.order.now a.ways.now c.requires.0 _ c.loop-at.invariant.1 c.loop-at-test.true c.cut-next.ensures in
+    left_kinded 2 file a.paths.order.now a.paths.ways.now c.requires _ c.loop-at.invariant.1 c.loop-at-test.true c.cut-next.ensures in
     let next_place : PlaceIn 2 file c.cut-next.result =
     (cut_next 12 file _ _ _ _ c.loop-at.invariant.1 c.cut-next.ensures).place in
     let stop : Fields =
@@ -95,7 +95,7 @@ is_named-requires c =
     c.args.f2.now in
     let kinded : Kinded 2 file c.cut-next.new.places =
     let a = c.args in
-    left_kinded 2 file a.order.now a.ways.now c.requires.0 _ c.loop-at.invariant.1 c.loop-at-test.true c.cut-next.ensures in
+    left_kinded 2 file a.paths.order.now a.paths.ways.now c.requires _ c.loop-at.invariant.1 c.loop-at-test.true c.cut-next.ensures in
     kinded
 
 pub part-requires : goal.part-requires
@@ -105,7 +105,7 @@ part-requires c =
     c.args.f2.now in
     let kinded : Kinded 2 file c.cut-next.new.places =
     let a = c.args in
-    left_kinded 2 file a.order.now a.ways.now c.requires.0 _ c.loop-at.invariant.1 c.loop-at-test.true c.cut-next.ensures in
+    left_kinded 2 file a.paths.order.now a.paths.ways.now c.requires _ c.loop-at.invariant.1 c.loop-at-test.true c.cut-next.ensures in
     kinded.parted 0 (omega arith)
 
 pub loop-at-smaller-then-is_named : goal.loop-at-smaller-then-is_named

@@ -4,14 +4,14 @@ use Rattle.named.specs.Names.{numbered_named}
 use Rattle.byname.specs.Counting.{settled_by}
 use Rattle.byname.proofs.settled_by.Goals as goal
 
-pub returns-then-found-eq0 : goal.returns-then-found-eq0
+pub returns-in-0 : goal.returns-in-0
 unfolding numbered_named settled_by
-returns-then-found-eq0 c = search tests
+returns-in-0 c = search tests
 
-pub returns-then-found-eq1 : goal.returns-then-found-eq1
+pub returns-in-1 : goal.returns-in-1
 unfolding numbered_named settled_by
-returns-then-found-eq1 c = search tests
+returns-in-1 c = rw c.in-1.is
 
-pub returns : goal.returns
+pub returns-in_default : goal.returns-in_default
 unfolding numbered_named settled_by
-returns c = search tests
+returns-in_default c = search tests

@@ -9,4 +9,4 @@ pub with_one-hit-requires : goal.with_one-hit-requires
 with_one-hit-requires c =
     let a = c.args in
     let p = c.requires in
-    (way_asks a.file a.s.now a.order.now a.ways.now 0 1 p.1 (place_start (fields_of a.file) a.s.now p.1.serves.keyed.legal) p.2 _ refl _ c.index_of.ensures, p.3)
+    (way_asks a.file a.s.now a.paths.order.now a.paths.ways.now 0 1 p.1 (place_start (fields_of a.file) a.s.now p.1.serves.keyed.legal) p.2 _ refl _ c.index_of.ensures, p.3)

@@ -9,4 +9,4 @@ pub with_two-hit-requires : goal.with_two-hit-requires
 with_two-hit-requires c =
     let a = c.args in
     let p = c.requires in
-    (way_asks a.file a.s.now a.order.now a.ways.now 0 2 p.1 (place_start (fields_of a.file) a.s.now p.1.serves.keyed.legal) p.2 _ refl _ c.index_of.ensures, p.3, p.4)
+    (way_asks a.file a.s.now a.paths.order.now a.paths.ways.now 0 2 p.1 (place_start (fields_of a.file) a.s.now p.1.serves.keyed.legal) p.2 _ refl _ c.index_of.ensures, p.3, p.4)

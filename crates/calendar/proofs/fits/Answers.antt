@@ -2,14 +2,10 @@
 use Rattle.calendar.specs.Answers.{numbered_whether, fits_answer}
 use Rattle.calendar.proofs.fits.Goals as goal
 
-pub returns-then-sign_fits : goal.returns-then-sign_fits
-unfolding numbered_whether fits_answer
-returns-then-sign_fits c = rw (← c.is_day.ensures, c.if-is_day.true, ← c.sign_fits.ensures, c.if-sign_fits.true)
-
 pub returns-then-is_day : goal.returns-then-is_day
 unfolding numbered_whether fits_answer
-returns-then-is_day c = rw (← c.is_day.ensures, c.if-is_day.true, ← c.sign_fits.ensures, c.if-sign_fits.false)
+returns-then-is_day c = rw (← c.is_day.ensures, c.if-is_day.true, c.sign_fits.ensures)
 
-pub returns : goal.returns
+pub returns-else-is_day : goal.returns-else-is_day
 unfolding numbered_whether fits_answer
-returns c = rw (← c.is_day.ensures, c.if-is_day.false)
+returns-else-is_day c = rw (← c.is_day.ensures, c.if-is_day.false)

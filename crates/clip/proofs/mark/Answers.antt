@@ -18,7 +18,7 @@ pub text_end-start-requires : goal.text_end-start-requires
 text_end-start-requires c =
     let near : c.loop-i.start + 1 ≤ length c.args.s.now =
     omega (arith, near_at c.args.n c.args.s.now c.args.at c.requires.0 c.loop-i.i) in
-    (omega (arith, near), c.requires.1)
+    omega (arith, near)
 
 pub loop-i-preserved : goal.loop-i-preserved
 loop-i-preserved c =
@@ -37,10 +37,12 @@ returns c =
     rw c.loop-i.invariant.1 at c.line_after-next.ensures
     ∙ line_end_lem c.args.n c.args.s.now c.args.at c.requires.0 c.loop-i.i last in
     let l = c.loop-i in
-    let m = rw last at (mark_one _ _ _ _ _ _ l.invariant.2 (omega (arith, c.requires.2)) l.invariant.1) in
+    let e : l.i ≡ c.args.n - 1 = omega arith in
+    let f : c.args.n - 1 + 1 ≡ c.args.n = omega arith in
+    let m = rw f at (mark_one _ _ _ _ _ _ (rw e at l.invariant.2) (omega (arith, c.requires.1)) (rw e at l.invariant.1)) in
     let z : c.line_after-next.result - 1 ≡ text_start c.args.at (first_record c.args.n c.args.s.now c.args.at) c.args.n =
     omega (arith, ended) in
-    cuts c.args.n c.args.s.now c.args.at c.requires.0 _ _ (mark_one _ _ _ _ _ _ m c.requires.2 z) _ ended
+    cuts c.args.n c.args.s.now c.args.at c.requires.0 _ _ (mark_one _ _ _ _ _ _ m c.requires.1 z) _ ended
 
 pub overflow_add-start-in-loop-i : goal.overflow_add-start-in-loop-i
 overflow_add-start-in-loop-i c =

@@ -1,8 +1,7 @@
 -- `coded::code_sign` meets its contract: a code that is given is a number, and its sign is looked up.
-use mathlib.Core.Path.{◌∙◌}
+use mathlib.Core.Path.{sym, ◌∙◌}
 use native.Mathlib.Omega.{arith}
-use borrow.Author.Tests.{eq-eqb, ne_eqb}
-use lib.ListN.{length}
+use borrow.Author.Tests.{eqb-false}
 use Rattle.coded.proofs.CodeLaws.{code_is, code_number}
 use Rattle.coded.proofs.code_sign.Goals as goal
 
@@ -10,26 +9,26 @@ pub part-text-requires : goal.part-text-requires
 part-text-requires c =
     c.requires.0.parted _ (omega (arith, c.requires.1.2))
 
-pub returns-then-text-eq0 : goal.returns-then-text-eq0
-returns-then-text-eq0 c =
+pub returns-then-is_empty : goal.returns-then-is_empty
+returns-then-is_empty c =
     let a = c.args in
-    let e = code_is a.file a.s.now a.places.now a.i c.requires.0 c.requires.1 _ c.part-text.ensures in
-    rw (e, eq-eqb (length c.part-text.result.now) 0 c.if-text-eq0.true)
+    let e = code_is a.file a.row.bytes.now a.row.places.now a.i c.requires.0 c.requires.1 _ c.part-text.ensures in
+    rw (e, sym c.if-is_empty.ensures)
 
 pub value_of-requires : goal.value_of-requires
 value_of-requires c =
     let a = c.args in
-    let n = code_number a.file a.s.now a.places.now a.i c.requires.0 c.requires.1 _ c.part-text.ensures c.if-text-eq0.false in
+    let n = code_number a.file a.row.bytes.now a.row.places.now a.i c.requires.0 c.requires.1 _ c.part-text.ensures (eqb-false _ _ (sym c.if-is_empty.ensures)) in
     (n.digits, n.most)
 
 pub sign_in-requires : goal.sign_in-requires
 sign_in-requires c =
     let a = c.args in
-    let n = code_number a.file a.s.now a.places.now a.i c.requires.0 c.requires.1 _ c.part-text.ensures c.if-text-eq0.false in
-    (rw c.value_of.ensures n.small, c.requires.2, c.requires.3)
+    let n = code_number a.file a.row.bytes.now a.row.places.now a.i c.requires.0 c.requires.1 _ c.part-text.ensures (eqb-false _ _ (sym c.if-is_empty.ensures)) in
+    (rw c.value_of.ensures n.small, c.requires.2)
 
 pub returns : goal.returns
 returns c =
     let a = c.args in
-    let e = code_is a.file a.s.now a.places.now a.i c.requires.0 c.requires.1 _ c.part-text.ensures in
-    rw (e, ne_eqb (length c.part-text.result.now) 0 c.if-text-eq0.false) (c.sign_in.ensures ∙ rw c.value_of.ensures)
+    let e = code_is a.file a.row.bytes.now a.row.places.now a.i c.requires.0 c.requires.1 _ c.part-text.ensures in
+    rw (e, sym c.if-is_empty.ensures) (c.sign_in.ensures ∙ rw c.value_of.ensures)

@@ -15,14 +15,14 @@ by_one-requires c =
 pub sign_at-requires : goal.sign_at-requires
 sign_at-requires c =
     let k = c.requires.1 in
-    let h = sign_found c.args.f3.now c.args.c _ k.key.legal (sym c.by_one.ensures ∙ c.in-At.is) in
-    (k.key, k.kinds, h.place, h.within, c.requires.2)
+    let h = sign_found c.args.f3.now c.args.c _ k.key.legal (sym c.by_one.ensures ∙ c.in-Some.is) in
+    (k.key, k.kinds, h.place, h.within)
 
-pub returns-in-At : goal.returns-in-At
-returns-in-At c =
-    let h = sign_found c.args.f3.now c.args.c _ c.requires.1.key.legal (sym c.by_one.ensures ∙ c.in-At.is) in
+pub returns-in-Some : goal.returns-in-Some
+returns-in-Some c =
+    let h = sign_found c.args.f3.now c.args.c _ c.requires.1.key.legal (sym c.by_one.ensures ∙ c.in-Some.is) in
     c.sign_at.ensures ∙ sym h.sign
 
-pub returns-in-Nothing : goal.returns-in-Nothing
-returns-in-Nothing c =
-    sym (sign_none c.args.c 0 (records_in (fields_of 3) c.args.f3.now) (sym c.by_one.ensures ∙ c.in-Nothing.is))
+pub returns-in-None : goal.returns-in-None
+returns-in-None c =
+    sym (sign_none c.args.c 0 (records_in (fields_of 3) c.args.f3.now) (sym c.by_one.ensures ∙ c.in-None.is))

@@ -1,7 +1,6 @@
 -- `counter::runs` meets its contract: the batch is checked first, and where there is no fault, what the records say is the answer.
 use mathlib.Core.Bool.{not}
-use mathlib.Core.Path.{ap}
-use mathlib.Core.Path.{◌∙◌}
+use mathlib.Core.Path.{ap, ◌∙◌}
 use Prim.Native.Nat.{◌≤◌}
 use native.Mathlib.Omega.{arith}
 use lib.ListN.{length}
@@ -32,7 +31,7 @@ answer_runs-requires c =
     let h : 33 ≤ length k.new.ways = omega arith in
     let s = standing _ none in
     let r = standing_ready _ _ _ s (k.ensures.1 none) h in
-    (line_met _ _ _ s.linking, r.codes, r.lines, r.trips, r.time_codes, c.classes-class.ensures, c.if-d-gt73048.false)
+    (line_met _ _ _ s.linking, r.codes, r.lines, r.trips, r.time_codes, c.if-d-gt73048.false)
 
 pub returns : goal.returns
 unfolding file_in

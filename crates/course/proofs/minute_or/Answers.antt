@@ -14,6 +14,6 @@ returns-then-is_timed c =
     let t = sym c.is_timed.ensures ∙ c.if-is_timed.true in
     (rw t c.minute_of.ensures, omega (arith, c.minute_of.ensures, minute_bound _ t))
 
-pub returns : goal.returns
+pub returns-else-is_timed : goal.returns-else-is_timed
 unfolding minute_or
-returns c = (rw (sym c.is_timed.ensures ∙ c.if-is_timed.false), omega arith)
+returns-else-is_timed c = (rw (sym c.is_timed.ensures ∙ c.if-is_timed.false), omega arith)

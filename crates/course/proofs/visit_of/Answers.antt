@@ -1,10 +1,15 @@
 -- `course::visit_of` meets its contract, member by member: the texts are the record's kilometres, arrival and departure.
+use mathlib.Core.Bool.{not}
+use mathlib.Core.Path.{◌≡◌, sym, ap}
 use native.Mathlib.Omega.{arith}
+use Rattle.laws.specs.Tests.{both}
 use Rattle.file.specs.Files.{fields_of, field_counts}
 use Rattle.field.specs.Kinds.{kind_of, kinds, zasspoje}
+use Rattle.field.specs.Values.{is_empty}
 use Rattle.rules.proofs.KindLaws.{text_at, text_kind}
 use Rattle.course.proofs.LeafLaws.{maybe_number, visit_is}
 use Rattle.course.proofs.visit_of.Goals as goal
+use Rattle.course.proofs.visit_of.Goals.{then-is_empty, else-is_empty}
 
 pub part-a-requires : goal.part-a-requires
 unfolding fields_of field_counts
@@ -53,5 +58,10 @@ pub returns : goal.returns
 unfolding fields_of field_counts
 returns c =
     let k = c.requires in
+    let none : c.if-is_empty.result ≡ both (is_empty c.part-a.result.now) (is_empty c.part-d.result.now) =
+    elim c.if-is_empty.branch [
+      | then-is_empty w ↦ rw (w.result-is, w.is_empty-then-is_empty.ensures, sym w.if-is_empty.ensures)
+      | else-is_empty w ↦ rw (w.result-is, w.if-is_empty.false, sym w.if-is_empty.ensures)
+    ] in
     visit_is _ (text_at k 8 (omega arith) c.part-a.ensures) (text_at k 9 (omega arith) c.part-d.ensures) (text_at k 7 (omega arith) c.part-k.ensures)
-    c.is_timed.ensures c.minute_or.ensures.0 c.is_timed-2.ensures c.minute_or-2.ensures.0 c.stands_in.ensures c.value_of.ensures
+    c.is_timed.ensures c.minute_or.ensures.0 c.is_timed-2.ensures c.minute_or-2.ensures.0 c.stands_in.ensures none (ap not c.is_empty-2.ensures) c.value_of.ensures

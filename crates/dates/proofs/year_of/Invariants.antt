@@ -1,11 +1,8 @@
 -- `year_of` meets its contract: year 1900 + k has begun, and the loop ends where the next has not, or at 2099.
 use mathlib.Core.Path.{◌≡◌}
-use Prim.Native.Nat.{◌*◌, ◌-◌, ◌≤◌}
+use Prim.Native.Nat.{◌*◌, ◌≤◌}
 use Rattle.dates.specs.Dates.{years_days}
 use Rattle.dates.proofs.year_of.Given as goal
 
 abbrev pub invariant-loop-k : goal.invariant-loop-k
-invariant-loop-k l = (l.k ≤ 199) × (l.begun ≡ years_days l.k) × (l.begun ≤ l.number) × (l.begun ≤ 366 * l.k)
-
-abbrev pub decreases-loop-k : goal.decreases-loop-k
-decreases-loop-k l = 199 - l.k
+invariant-loop-k l = (l.begun ≡ years_days l.k) × (l.begun ≤ l.number) × (l.begun ≤ 366 * l.k)

@@ -3,10 +3,10 @@ use Rattle.calendar.specs.Answers.{numbered_date}
 use Rattle.dayresults.specs.Results.{date_result}
 use Rattle.dayresults.proofs.date.Goals as goal
 
-pub returns-in-On : goal.returns-in-On
+pub returns-in-Some : goal.returns-in-Some
 unfolding date_result numbered_date
-returns-in-On c = rw (← c.date_of.ensures, c.in-On.is)
+returns-in-Some c = rw (← c.date_of.ensures, c.in-Some.is)
 
-pub returns-in-NoDate : goal.returns-in-NoDate
+pub returns-in-None : goal.returns-in-None
 unfolding date_result numbered_date
-returns-in-NoDate c = rw (← c.date_of.ensures, c.in-NoDate.is)
+returns-in-None c = rw (← c.date_of.ensures, c.in-None.is)

@@ -3,10 +3,10 @@ use Rattle.calendar.specs.Answers.{numbered_day}
 use Rattle.dayresults.specs.Results.{day_result}
 use Rattle.dayresults.proofs.day.Goals as goal
 
-pub returns-in-At : goal.returns-in-At
+pub returns-in-Some : goal.returns-in-Some
 unfolding day_result numbered_day
-returns-in-At c = rw (← c.day_of.ensures, c.in-At.is)
+returns-in-Some c = rw (← c.day_of.ensures, c.in-Some.is)
 
-pub returns-in-NotReal : goal.returns-in-NotReal
+pub returns-in-None : goal.returns-in-None
 unfolding day_result numbered_day
-returns-in-NotReal c = rw (← c.day_of.ensures, c.in-NotReal.is)
+returns-in-None c = rw (← c.day_of.ensures, c.in-None.is)

@@ -3,10 +3,10 @@ use Rattle.calendar.specs.Answers.{numbered_weekday}
 use Rattle.dayresults.specs.Results.{weekday_result}
 use Rattle.dayresults.proofs.weekday.Goals as goal
 
-pub returns-in-Is : goal.returns-in-Is
+pub returns-in-Some : goal.returns-in-Some
 unfolding weekday_result numbered_weekday
-returns-in-Is c = rw (← c.weekday_of.ensures, c.in-Is.is)
+returns-in-Some c = rw (← c.weekday_of.ensures, c.in-Some.is)
 
-pub returns-in-NoWeekday : goal.returns-in-NoWeekday
+pub returns-in-None : goal.returns-in-None
 unfolding weekday_result numbered_weekday
-returns-in-NoWeekday c = rw (← c.weekday_of.ensures, c.in-NoWeekday.is)
+returns-in-None c = rw (← c.weekday_of.ensures, c.in-None.is)

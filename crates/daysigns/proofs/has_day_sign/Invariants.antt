@@ -1,6 +1,5 @@
 -- `daysigns::has_day_sign` meets its contract. The loop's invariant: whether one of the signs that are left is a day sign is whether one of all is.
 use mathlib.Core.Path.{◌≡◌}
-use Prim.Native.Nat.{◌-◌, ◌≤◌}
 use Rattle.signs.specs.Signs.{is_day_sign}
 use Rattle.file.specs.Files.{fields_of}
 use Rattle.file.specs.Records.{records_in}
@@ -11,8 +10,5 @@ use Rattle.daysigns.proofs.SignLaws.{signs_left}
 use Rattle.daysigns.proofs.has_day_sign.Given as goal
 
 abbrev pub invariant-loop-i : goal.invariant-loop-i
-invariant-loop-i l = let left = signs_left (λ x. is_day_sign x) (λ c. sign_in (records_in (fields_of codes_file) l.f3) c) (texts trips_file l.f6 l.places) in
-    (2 ≤ l.i) × (l.i ≤ 12) × (left l.i ≡ left 2)
-
-abbrev pub decreases-loop-i : goal.decreases-loop-i
-decreases-loop-i l = 12 - l.i
+invariant-loop-i l = let left = signs_left (λ x. is_day_sign x) (λ c. sign_in (records_in (fields_of codes_file) l.f3) c) (texts trips_file l.row.bytes.now l.row.places.now) in
+    left l.i ≡ left 2

@@ -1,6 +1,5 @@
 -- `daysigns::signs_allow` meets its contract. The loop's invariant: whether one of the signs that are left fits day d is whether one of all does.
 use mathlib.Core.Path.{◌≡◌}
-use Prim.Native.Nat.{◌-◌, ◌≤◌}
 use Rattle.signs.specs.Signs.{sign_fits}
 use Rattle.file.specs.Files.{fields_of}
 use Rattle.file.specs.Records.{records_in}
@@ -11,8 +10,5 @@ use Rattle.daysigns.proofs.SignLaws.{signs_left}
 use Rattle.daysigns.proofs.signs_allow.Given as goal
 
 abbrev pub invariant-loop-i : goal.invariant-loop-i
-invariant-loop-i l = let left = signs_left (λ x. sign_fits x l.d l.holidays) (λ c. sign_in (records_in (fields_of codes_file) l.f3) c) (texts trips_file l.f6 l.places) in
-    (2 ≤ l.i) × (l.i ≤ 12) × (left l.i ≡ left 2)
-
-abbrev pub decreases-loop-i : goal.decreases-loop-i
-decreases-loop-i l = 12 - l.i
+invariant-loop-i l = let left = signs_left (λ x. sign_fits x l.d l.holidays) (λ c. sign_in (records_in (fields_of codes_file) l.f3) c) (texts trips_file l.row.bytes.now l.row.places.now) in
+    left l.i ≡ left 2

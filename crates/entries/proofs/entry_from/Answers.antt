@@ -1,7 +1,7 @@
 -- `entries::entry_from` meets its contract: the first entry from the trip's x on is the next record, or there is none.
+use Rattle.std.specs.Prelude.{ℕ, Option}
 use mathlib.Core.Path.{ap, ◌∙◌}
 use native.Mathlib.Omega.{arith}
-use Rattle.walk.specs.declared.Found.{Found}
 use Rattle.seek.proofs.SeekLaws.{entry_place}
 use Rattle.trail.specs.Trail.{place_of}
 use Rattle.entries.proofs.StepLaws.{entry_next, entry_none}
@@ -13,7 +13,7 @@ returns-then-i-part c x l =
     let a = c.args in
     let p = c.requires in
     let s = a.s.now in
-    ap (λ (f : Found). place_of s f) (entry_none a.file a.line a.trip s p.0 p.1 p.3 p.4 a.part.now p.2 x a.i l c.if-i-part.true)
+    ap (λ (f : Option ℕ). place_of s f) (entry_none a.file a.line a.trip s p.0 p.1 p.3 p.4 a.part.now p.2 x a.i l c.if-i-part.true)
 
 pub if_of_trip-found-requires : goal.if_of_trip-found-requires
 if_of_trip-found-requires c =
@@ -27,7 +27,7 @@ returns c x l =
     let p = c.requires in
     let s = a.s.now in
     c.place_of.ensures
-    ∙ ap (λ (f : Found). place_of s f)
+    ∙ ap (λ (f : Option ℕ). place_of s f)
     (c.if_of_trip-found.ensures
     ∙ entry_next a.file a.line a.trip s p.0 p.1 p.3 p.4 a.part.now p.2 x a.i l (omega (arith, c.if-i-part.false)))
 

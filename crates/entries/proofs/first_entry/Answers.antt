@@ -12,11 +12,11 @@ pub returns-then-up : goal.returns-then-up
 unfolding step_of rank_key
 returns-then-up c = c.entry_from.ensures 0 c.lower-i.ensures ∙ rw c.if-up.true
 
-pub returns : goal.returns
+pub returns-else-up : goal.returns-else-up
 unfolding step_of rank_key
-returns c =
+returns-else-up c =
     let a = c.args in
-    let m = c.lower-i-2 in
+    let m = c.lower-i-else-up in
     let e : (a.line * none + a.trip + 1) * none + 0 ≡ (a.line * none + a.trip) * none + none = omega arith in
     let l = subst (λ (x : ℕ). Lower a.file a.s.now a.part.now x m.result) e m.ensures in
     c.entry_below.ensures none (omega arith) l ∙ rw c.if-up.false

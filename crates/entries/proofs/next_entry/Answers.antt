@@ -20,9 +20,9 @@ returns-then-up c =
     let l = lower_up a.file a.line a.trip s p.0 p.1 p.6 p.7 a.part.now p.2 p.3 a.entry p.4 p.5 in
     c.entry_from.ensures _ l ∙ rw c.if-up.true
 
-pub returns : goal.returns
+pub returns-else-up : goal.returns-else-up
 unfolding step_of
-returns c =
+returns-else-up c =
     let a = c.args in
     let p = c.requires in
     let s = a.s.now in

@@ -1,11 +1,14 @@
 -- `entries::place_of` meets its contract, case by case.
+use Rattle.std.specs.Prelude.{ℕ, ◌≡◌, refl, List, length, Option, Some, None}
+use Rattle.std.specs.Option.{unwrap_or}
+use mathlib.Core.Path.{◌∙◌}
 use Rattle.trail.specs.Trail.{place_of}
 use Rattle.entries.proofs.place_of.Goals as goal
 
-pub returns-in-At : goal.returns-in-At
+or_end : (s : List ℕ) (found : Option ℕ) → unwrap_or found (length s) ≡ place_of s found
 unfolding place_of
-returns-in-At c = rw c.in-At.is
+or_end s (Some at) = refl
+or_end s None = refl
 
-pub returns-in-Nothing : goal.returns-in-Nothing
-unfolding place_of
-returns-in-Nothing c = rw c.in-Nothing.is
+pub returns : goal.returns
+returns c = c.unwrap_or.ensures ∙ or_end _ _

@@ -1,22 +1,8 @@
 -- `extent::sized_end` meets its contract: a text goes on as far as its bytes are permitted, and they are as many as may be.
-use mathlib.Core.Path.{refl}
-use native.Mathlib.Omega.{arith}
 use Rattle.extent.proofs.TextLaws.{sized_to}
 use Rattle.extent.proofs.sized_end.Goals as goal
 
-pub returns : goal.returns
-returns c some =
+pub returns-then-size-b : goal.returns-then-size-b
+returns-then-size-b c =
     let a = c.args in
-    sized_to a.a a.b a.s.now a.at c.text_end-end.result c.text_end-end.ensures c.if-end-at.false c.if-end-at-2.false
-
-pub overflow_sub-end : goal.overflow_sub-end
-overflow_sub-end c = omega (arith, c.text_end-end.ensures.place)
-
-pub returns-then-end-at : goal.returns-then-end-at
-returns-then-end-at c some = absurd (some refl)
-
-pub overflow_sub-end-2 : goal.overflow_sub-end-2
-overflow_sub-end-2 c = omega (arith, c.text_end-end.ensures.place)
-
-pub returns-then-end-at-2 : goal.returns-then-end-at-2
-returns-then-end-at-2 c some = absurd (some refl)
+    sized_to a.a a.b a.s.now a.at c.text_end-end.result c.text_end-end.ensures c.if-a-size.true c.if-size-b.true

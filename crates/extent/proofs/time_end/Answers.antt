@@ -1,25 +1,19 @@
 -- `extent::time_end` meets its contract: no text at all, one byte of two, or four digits.
 use mathlib.Core.Path.{sym, ◌∙◌}
-use native.Mathlib.Omega.{arith}
 use Rattle.extent.proofs.TextLaws.{no_text, no_time, passed_to, aside_to}
 use Rattle.extent.proofs.time_end.Goals as goal
+use Rattle.extent.proofs.time_end.Goals.{then-stands-2, else-stands-2}
 
 pub returns-then-stands : goal.returns-then-stands
-returns-then-stands c some =
-    no_text _ c.args.s.now c.args.at no_time c.requires
-
-pub returns-then-stands-2 : goal.returns-then-stands-2
-returns-then-stands-2 c some =
-    let a = c.args in
-    passed_to a.s.now a.at (sym c.stands-2.ensures.0 ∙ c.if-stands-2.true) (c.stands-2.ensures.1 c.if-stands-2.true)
+returns-then-stands c = no_text _ c.args.s.now c.args.at no_time c.requires
 
 pub returns-then-stands-3 : goal.returns-then-stands-3
-returns-then-stands-3 c some =
+returns-then-stands-3 c =
     let a = c.args in
-    aside_to a.s.now a.at (sym c.stands-3.ensures.0 ∙ c.if-stands-3.true) (c.stands-3.ensures.1 c.if-stands-3.true)
-
-pub overflow_add-result : goal.overflow_add-result
-overflow_add-result c = omega (arith, c.stands-2.ensures.1 c.if-stands-2.true)
-
-pub overflow_add-result-then-stands-3 : goal.overflow_add-result-then-stands-3
-overflow_add-result-then-stands-3 c = omega (arith, c.stands-3.ensures.1 c.if-stands-3.true)
+    elim c.if-stands-2.branch [
+      | then-stands-2 w ↦
+          passed_to a.s.now a.at (sym c.stands-else-stands.ensures.0 ∙ w.if-stands-2.true) (c.stands-else-stands.ensures.1 w.if-stands-2.true)
+      | else-stands-2 w ↦
+          let h = sym w.value-is ∙ c.if-stands-3.true in
+          aside_to a.s.now a.at (sym w.stands-else-stands-2.ensures.0 ∙ h) (w.stands-else-stands-2.ensures.1 h)
+    ]

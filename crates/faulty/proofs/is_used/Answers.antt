@@ -1,6 +1,6 @@
 -- `faulty::is_used` meets its contract: no record of a file without keys, or whose keys are all different, has an earlier one's key.
 use native.Mathlib.Omega.{arith}
-use Rattle.faulty.proofs.StageLaws.{used_keyless, used_rising, used_index, used_found, way_here, serves_part}
+use Rattle.faulty.proofs.StageLaws.{used_keyless, used_known, used_found, way_here, serves_part}
 use Rattle.faulty.proofs.is_used.Goals as goal
 
 pub returns-then-file-gt10 : goal.returns-then-file-gt10
@@ -9,11 +9,7 @@ returns-then-file-gt10 c =
 
 pub returns-then-how-eq1 : goal.returns-then-how-eq1
 returns-then-how-eq1 c =
-    used_rising _ _ _ _ _ c.requires c.if-file-gt10.false c.if-how-eq1.true
-
-pub returns-then-how-eq2 : goal.returns-then-how-eq2
-returns-then-how-eq2 c =
-    used_index _ _ _ _ _ c.requires c.if-file-gt10.false c.if-how-eq2.true
+    used_known _ _ _ _ _ c.requires c.if-file-gt10.false c.then-how-eq1.either
 
 pub index_of-requires : goal.index_of-requires
 index_of-requires c =

@@ -2,7 +2,7 @@
 -- first of all.
 use mathlib.Core.Path.{◌≡◌, refl, sym, ap, ◌∙◌, subst}
 use mathlib.Core.List.{List}
-use Prim.Native.Nat.{ℕ, ◌-◌}
+use Prim.Native.Nat.{ℕ}
 use native.Mathlib.Omega.{arith}
 use Rattle.file.specs.Files.{fields_of}
 use Rattle.walk.specs.Walk.{Parted, cut_record}
@@ -61,7 +61,7 @@ loop-at-init c = (omega arith, omega arith, c.requires.legal, refl)
 
 pub cut-next-requires : goal.cut-next-requires
 cut-next-requires c = let l = c.loop-at in
-    (record { legal = l.invariant.2; more = c.loop-at-test.true; room = c.requires.few }, c.classes-class.ensures)
+    record { legal = l.invariant.2; more = c.loop-at-test.true; room = c.requires.few }
 
 pub first_unkind-f-requires : goal.first_unkind-f-requires
 first_unkind-f-requires c = c.cut-next.ensures.parted

@@ -5,11 +5,11 @@ use Rattle.fileresults.specs.Results.{records_result}
 use Rattle.fileresults.proofs.RefusedLaws.{records_at, refused_records}
 use Rattle.fileresults.proofs.records.Goals as goal
 
-pub returns-in-Records : goal.returns-in-Records
+pub returns-in-Ok : goal.returns-in-Ok
 unfolding numbered_counted records_result
-returns-in-Records c = rw (← c.records.ensures, c.in-Records.is)
+returns-in-Ok c = rw (← c.records.ensures, c.in-Ok.is)
 
-pub returns-in-Refused : goal.returns-in-Refused
+pub returns-in-Err : goal.returns-in-Err
 unfolding numbered_counted
-returns-in-Refused c =
-    rw (← c.records.ensures, c.in-Refused.is) (ap records_at c.place_of-p.ensures ∙ refused_records c.in-Refused.why)
+returns-in-Err c =
+    rw (← c.records.ensures, c.in-Err.is) (ap records_at c.place_of-p.ensures ∙ refused_records c.in-Err.why)

@@ -5,14 +5,14 @@ use Rattle.fileresults.specs.Results.{write_result}
 use Rattle.fileresults.proofs.RefusedLaws.{write_at, refused_write}
 use Rattle.fileresults.proofs.write.Goals as goal
 
-pub returns-in-Next : goal.returns-in-Next
+pub returns-in-Ok : goal.returns-in-Ok
 unfolding numbered_written write_result
-returns-in-Next c =
+returns-in-Ok c =
     let w = c.write in
-    (rw (← w.ensures.0, c.in-Next.is), w.ensures.1)
+    (rw (← w.ensures.0, c.in-Ok.is), w.ensures.1)
 
-pub returns-in-Refused : goal.returns-in-Refused
+pub returns-in-Err : goal.returns-in-Err
 unfolding numbered_written
-returns-in-Refused c =
+returns-in-Err c =
     let w = c.write in
-    (rw (← w.ensures.0, c.in-Refused.is) (ap write_at c.place_of-p.ensures ∙ refused_write c.in-Refused.why), w.ensures.1)
+    (rw (← w.ensures.0, c.in-Err.is) (ap write_at c.place_of-p.ensures ∙ refused_write c.in-Err.why), w.ensures.1)

@@ -4,17 +4,17 @@ use Rattle.keys.proofs.KeyFileLaws.{key_here}
 use Rattle.find.proofs.FindLaws.{back_at, back_nothing}
 use Rattle.find.proofs.used_before.Goals as goal
 
-pub returns-in-At : goal.returns-in-At
-returns-in-At c =
+pub returns-in-Some : goal.returns-in-Some
+returns-in-Some c =
     let k = c.key_at in
     let a = c.args in
-    back_at a.file a.s.now a.at c.requires.0.keyed c.requires.1 c.requires.2 k.result k.ensures _ (sym c.in-At.is ∙ c.first_ranked-hit.ensures)
+    back_at a.file a.s.now a.at c.requires.0.keyed c.requires.1 c.requires.2 k.result k.ensures _ (sym c.in-Some.is ∙ c.first_ranked-hit.ensures)
 
-pub returns-in-Nothing : goal.returns-in-Nothing
-returns-in-Nothing c =
+pub returns-in-None : goal.returns-in-None
+returns-in-None c =
     let k = c.key_at in
     let a = c.args in
-    back_nothing a.file a.s.now a.at c.requires.0.keyed c.requires.1 c.requires.2 k.result k.ensures (sym c.in-Nothing.is ∙ c.first_ranked-hit.ensures)
+    back_nothing a.file a.s.now a.at c.requires.0.keyed c.requires.1 c.requires.2 k.result k.ensures (sym c.in-None.is ∙ c.first_ranked-hit.ensures)
 
 pub key_at-requires : goal.key_at-requires
 key_at-requires c = key_here _ _ _ c.requires.0.keyed c.requires.1 c.requires.2

@@ -9,5 +9,5 @@ returns c =
     let a = c.args in
     let f = c.requires.0.serves.keyed in
     let small = small_three a.a a.b a.c c.requires.1 c.requires.2 c.requires.3 in
-    c.first_ranked-hit.ensures
+    c.first_ranked.ensures
     ∙ by_key a.file (a.a ∷ a.b ∷ a.c ∷ []) _ _ f.keyed f.keys small (sym c.requires.0.numbers) (rank_three a.a a.b a.c)

@@ -1,12 +1,11 @@
 -- `flaw::amiss_at` meets its contract: what is wrong with a field is what its link asks for; each link's fields are numbers, or a code.
-use mathlib.Core.Path.{◌≡◌, refl, sym, ◌∙◌}
+use mathlib.Core.Path.{refl, sym, ◌∙◌}
 use native.Mathlib.Omega.{arith}
 use Rattle.file.specs.Format.{Fields}
-use Rattle.thirteen.specs.Batch.{Batch, thirteen}
+use Rattle.thirteen.specs.Batch.{Batch}
+use Rattle.thirteen.specs.Lent.{batch_of}
 use Rattle.keys.specs.Keys.{key_fields, key_table}
 use Rattle.rules.specs.Texts.{texts}
-use Rattle.link.specs.Links.{link_of}
-use Rattle.link.specs.declared.Link.{Link}
 use Rattle.link.proofs.KindOfLinks.{line_numeric, stop_numeric, carrier_numeric, trip_numeric, trip_or_zero_numeric, line_stop_numeric, code_kind_lem}
 use Rattle.amiss.proofs.AmissLaws.{free_amiss, line_amiss, stop_amiss, carrier_amiss, trip_amiss, seat_amiss, line_stop_amiss}
 use Rattle.flaw.proofs.amiss_at.Goals as goal
@@ -63,49 +62,44 @@ code_amiss-requires c =
 
 pub returns-in-Free : goal.returns-in-Free
 returns-in-Free c =
-    let files : Batch =
-    let a = c.args in thirteen a.f1.now a.f2.now a.f3.now a.f4.now a.f5.now a.f6.now a.f7.now a.f8.now a.f9.now a.f10.now a.f11.now a.f12.now a.f13.now in
+    let files : Batch = batch_of c.args.files.now in
     let cutTexts : Fields =
-    let a = c.args in texts a.file a.s.now a.places.now in
+    let a = c.args in texts a.file a.row.bytes.now a.row.places.now in
     let a = c.args in
     (free_amiss files a.file a.f cutTexts (sym c.in-Free.is ∙ c.link_of.ensures), c.requires.known.looks.lasts)
 
 pub returns-in-Line : goal.returns-in-Line
 returns-in-Line c =
-    let files : Batch =
-    let a = c.args in thirteen a.f1.now a.f2.now a.f3.now a.f4.now a.f5.now a.f6.now a.f7.now a.f8.now a.f9.now a.f10.now a.f11.now a.f12.now a.f13.now in
+    let files : Batch = batch_of c.args.files.now in
     let cutTexts : Fields =
-    let a = c.args in texts a.file a.s.now a.places.now in
+    let a = c.args in texts a.file a.row.bytes.now a.row.places.now in
     let a = c.args in
     let k = sym c.in-Line.is ∙ c.link_of.ensures in
     (c.one_amiss.ensures.0 ∙ line_amiss files a.file a.f cutTexts k, c.one_amiss.ensures.1)
 
 pub returns-in-Stop : goal.returns-in-Stop
 returns-in-Stop c =
-    let files : Batch =
-    let a = c.args in thirteen a.f1.now a.f2.now a.f3.now a.f4.now a.f5.now a.f6.now a.f7.now a.f8.now a.f9.now a.f10.now a.f11.now a.f12.now a.f13.now in
+    let files : Batch = batch_of c.args.files.now in
     let cutTexts : Fields =
-    let a = c.args in texts a.file a.s.now a.places.now in
+    let a = c.args in texts a.file a.row.bytes.now a.row.places.now in
     let a = c.args in
     let k = sym c.in-Stop.is ∙ c.link_of.ensures in
     (c.stop_amiss.ensures.0 ∙ stop_amiss files a.file a.f cutTexts k, c.stop_amiss.ensures.1)
 
 pub returns-in-Carrier : goal.returns-in-Carrier
 returns-in-Carrier c =
-    let files : Batch =
-    let a = c.args in thirteen a.f1.now a.f2.now a.f3.now a.f4.now a.f5.now a.f6.now a.f7.now a.f8.now a.f9.now a.f10.now a.f11.now a.f12.now a.f13.now in
+    let files : Batch = batch_of c.args.files.now in
     let cutTexts : Fields =
-    let a = c.args in texts a.file a.s.now a.places.now in
+    let a = c.args in texts a.file a.row.bytes.now a.row.places.now in
     let a = c.args in
     let k = sym c.in-Carrier.is ∙ c.link_of.ensures in
     (c.one_amiss-in-Carrier.ensures.0 ∙ carrier_amiss files a.file a.f cutTexts k, c.one_amiss-in-Carrier.ensures.1)
 
 pub returns-in-Trip : goal.returns-in-Trip
 returns-in-Trip c =
-    let files : Batch =
-    let a = c.args in thirteen a.f1.now a.f2.now a.f3.now a.f4.now a.f5.now a.f6.now a.f7.now a.f8.now a.f9.now a.f10.now a.f11.now a.f12.now a.f13.now in
+    let files : Batch = batch_of c.args.files.now in
     let cutTexts : Fields =
-    let a = c.args in texts a.file a.s.now a.places.now in
+    let a = c.args in texts a.file a.row.bytes.now a.row.places.now in
     let a = c.args in
     let k = sym c.in-Trip.is ∙ c.link_of.ensures in
     let t = trip_numeric a.file a.f (sym k) in
@@ -113,20 +107,18 @@ returns-in-Trip c =
 
 pub returns-in-TripOrZero : goal.returns-in-TripOrZero
 returns-in-TripOrZero c =
-    let files : Batch =
-    let a = c.args in thirteen a.f1.now a.f2.now a.f3.now a.f4.now a.f5.now a.f6.now a.f7.now a.f8.now a.f9.now a.f10.now a.f11.now a.f12.now a.f13.now in
+    let files : Batch = batch_of c.args.files.now in
     let cutTexts : Fields =
-    let a = c.args in texts a.file a.s.now a.places.now in
+    let a = c.args in texts a.file a.row.bytes.now a.row.places.now in
     let a = c.args in
     let k = sym c.in-TripOrZero.is ∙ c.link_of.ensures in
     (c.seat_amiss.ensures.0 ∙ seat_amiss files a.file a.f cutTexts k, c.seat_amiss.ensures.1)
 
 pub returns-in-LineStop : goal.returns-in-LineStop
 returns-in-LineStop c =
-    let files : Batch =
-    let a = c.args in thirteen a.f1.now a.f2.now a.f3.now a.f4.now a.f5.now a.f6.now a.f7.now a.f8.now a.f9.now a.f10.now a.f11.now a.f12.now a.f13.now in
+    let files : Batch = batch_of c.args.files.now in
     let cutTexts : Fields =
-    let a = c.args in texts a.file a.s.now a.places.now in
+    let a = c.args in texts a.file a.row.bytes.now a.row.places.now in
     let a = c.args in
     let k = sym c.in-LineStop.is ∙ c.link_of.ensures in
     let t = line_stop_numeric a.file a.f (sym k) in (

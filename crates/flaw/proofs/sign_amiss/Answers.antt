@@ -1,142 +1,81 @@
 -- `flaw::sign_amiss` meets its contract: the tests are those of the definition, and Zasspoje's first code is one of the record's
 -- fields.
-use mathlib.Core.Path.{◌≡◌, sym, ap, ◌∙◌}
-use mathlib.Core.Bool.{true, false}
+use mathlib.Core.Path.{sym, ap, ◌∙◌}
 use Prim.Native.Nat.{ℕ}
 use native.Mathlib.Omega.{arith}
-use borrow.Author.Tests.{eq-eqb, ne_eqb}
-use Rattle.file.specs.Format.{Text, Fields}
-use Rattle.field.specs.Names.{field}
-use Rattle.field.specs.Values.{is_empty, value}
-use Rattle.thirteen.specs.Batch.{Batch, thirteen}
+use borrow.Author.Tests.{eqb-false}
+use Rattle.file.specs.Format.{Fields}
+use Rattle.thirteen.specs.Batch.{Batch}
+use Rattle.thirteen.specs.Lent.{batch_of}
 use Rattle.rules.specs.Texts.{texts}
-use Rattle.link.specs.Signs.{is_permitted, sign_of}
-use Rattle.amiss.proofs.RecordLaws.{code_field, code_part, first_code}
-use Rattle.amiss.proofs.AmissLaws.{is_second, other_file, other_field, sign_refused, sign_alone, sign_first, sign_same, sign_other}
+use Rattle.link.specs.Signs.{sign_of}
+use Rattle.amiss.proofs.RecordLaws.{code_part, code_is_empty, code_number, first_code}
+use Rattle.amiss.proofs.AmissLaws.{is_second, is_other, sign_refused, sign_alone, sign_first, sign_same, sign_other}
 use Rattle.flaw.proofs.sign_amiss.Goals as goal
+use Rattle.flaw.proofs.sign_amiss.Goals.{then-is_empty-via-then-is_empty, then-is_empty-via-else-is_empty+then-sign_of-sign}
 
 pub returns-then-not-is_permitted : goal.returns-then-not-is_permitted
 returns-then-not-is_permitted c =
-    let files : Batch =
-    let a = c.args in thirteen a.f1.now a.f2.now a.f3.now a.f4.now a.f5.now a.f6.now a.f7.now a.f8.now a.f9.now a.f10.now a.f11.now a.f12.now a.f13.now in
-    let cutTexts : Fields =
-    let a = c.args in texts a.file a.s.now a.places.now in
     let a = c.args in
+    let r : Fields = texts a.file a.row.bytes.now a.row.places.now in
     let p = sym c.is_permitted.ensures ∙ c.if-not-is_permitted.true in
-    (sign_refused files a.file a.f cutTexts c.requires.2 c.requires.3 p, c.requires.0.known.looks.lasts)
+    (sign_refused (batch_of a.files.now) a.file a.f r c.requires.2 c.requires.3 p, c.requires.0.known.looks.lasts)
 
 pub returns-then-file-ne8 : goal.returns-then-file-ne8
 returns-then-file-ne8 c =
-    let files : Batch =
-    let a = c.args in thirteen a.f1.now a.f2.now a.f3.now a.f4.now a.f5.now a.f6.now a.f7.now a.f8.now a.f9.now a.f10.now a.f11.now a.f12.now a.f13.now in
-    let cutTexts : Fields =
-    let a = c.args in texts a.file a.s.now a.places.now in
-    let permitted : let a = c.args in is_permitted a.file a.sign ≡ true =
-    sym c.is_permitted.ensures ∙ c.if-not-is_permitted.false in
     let a = c.args in
-    let h = other_file a.file a.f c.if-file-ne8.true in (
-      sign_alone files a.file a.f cutTexts c.requires.2 c.requires.3 permitted h,
-      c.requires.0.known.looks.lasts,
-    )
-
-pub returns-then-f-ne7 : goal.returns-then-f-ne7
-returns-then-f-ne7 c =
-    let files : Batch =
-    let a = c.args in thirteen a.f1.now a.f2.now a.f3.now a.f4.now a.f5.now a.f6.now a.f7.now a.f8.now a.f9.now a.f10.now a.f11.now a.f12.now a.f13.now in
-    let cutTexts : Fields =
-    let a = c.args in texts a.file a.s.now a.places.now in
-    let permitted : let a = c.args in is_permitted a.file a.sign ≡ true =
-    sym c.is_permitted.ensures ∙ c.if-not-is_permitted.false in
-    let a = c.args in
-    let h = other_field a.file a.f c.if-file-ne8.false c.if-f-ne7.true in (
-      sign_alone files a.file a.f cutTexts c.requires.2 c.requires.3 permitted h,
-      c.requires.0.known.looks.lasts,
-    )
+    let r : Fields = texts a.file a.row.bytes.now a.row.places.now in
+    let p = sym c.is_permitted.ensures ∙ c.if-not-is_permitted.false in
+    let h = is_other a.file a.f c.then-file-ne8.either in
+    (sign_alone (batch_of a.files.now) a.file a.f r c.requires.2 c.requires.3 p h, c.requires.0.known.looks.lasts)
 
 pub part-first-requires : goal.part-first-requires
 part-first-requires c =
     c.requires.0.kinded.parted 5 (omega (arith, (first_code c.args.file c.if-file-ne8.false).2))
 
-pub returns-then-first-eq0 : goal.returns-then-first-eq0
-returns-then-first-eq0 c =
-    let second : let a = c.args in (a.file ≡ 8) × (a.f ≡ 7) =
-    (c.if-file-ne8.false, c.if-f-ne7.false) in
-    let cutTexts : Fields =
-    let a = c.args in texts a.file a.s.now a.places.now in
-    let first_text : field 6 cutTexts ≡ c.part-first.result.now =
-    code_field c.requires.0.kinded 6 c.part-first.ensures (first_code c.args.file c.if-file-ne8.false) in
-    let permitted : let a = c.args in is_permitted a.file a.sign ≡ true =
-    sym c.is_permitted.ensures ∙ c.if-not-is_permitted.false in
-    let files : Batch =
-    let a = c.args in thirteen a.f1.now a.f2.now a.f3.now a.f4.now a.f5.now a.f6.now a.f7.now a.f8.now a.f9.now a.f10.now a.f11.now a.f12.now a.f13.now in
+pub returns-then-is_empty : goal.returns-then-is_empty
+returns-then-is_empty c =
     let a = c.args in
-    let h = is_second a.file a.f second.0 second.1 in
-    let z : is_empty (field 6 cutTexts) ≡ true = rw first_text (eq-eqb _ 0 c.if-first-eq0.true) in
-    let q = permitted in (
-      sign_first files a.file a.f cutTexts c.requires.2 c.requires.3 q h z,
-      c.requires.0.known.looks.lasts,
-    )
+    let b : Batch = batch_of a.files.now in
+    let r : Fields = texts a.file a.row.bytes.now a.row.places.now in
+    let k = c.requires.0.kinded in
+    let p = sym c.is_permitted.ensures ∙ c.if-not-is_permitted.false in
+    let n = first_code a.file c.if-file-ne8.false in
+    let h = is_second a.file a.f c.if-file-ne8.false c.if-f-ne7.false in
+    elim c.then-is_empty.branch [
+      | then-is_empty-via-then-is_empty w ↦ (
+        sign_first b a.file a.f r c.requires.2 c.requires.3 p h (code_is_empty k 6 c.part-first.ensures n w.if-is_empty.ensures),
+        rw w.last-is c.requires.0.known.looks.lasts,
+      )
+      | then-is_empty-via-else-is_empty+then-sign_of-sign w ↦
+          let z = code_is_empty k 6 c.part-first.ensures n w.if-is_empty.ensures in
+          let number = code_number k 6 c.part-first.ensures n w.value_of.ensures in
+          let sign = w.sign_of.ensures.0 ∙ ap (λ (x : ℕ). sign_of b x) number in (
+            sign_same b a.file a.f r c.requires.2 c.requires.3 p h z sign w.if-sign_of-sign.true,
+            rw w.last-is w.sign_of.ensures.1,
+          )
+    ]
 
 pub value_of-requires : goal.value_of-requires
 value_of-requires c =
-    let second : let a = c.args in (a.file ≡ 8) × (a.f ≡ 7) =
-    (c.if-file-ne8.false, c.if-f-ne7.false) in
-    let n = code_part c.requires.0.kinded 6 c.part-first.ensures (first_code c.args.file second.0) c.if-first-eq0.false in
+    let n = code_part c.requires.0.kinded 6 c.part-first.ensures (first_code c.args.file c.if-file-ne8.false) (eqb-false _ _ (sym c.if-is_empty.ensures)) in
     (n.digits, n.most)
 
 pub sign_of-requires : goal.sign_of-requires
 sign_of-requires c =
-    let second : let a = c.args in (a.file ≡ 8) × (a.f ≡ 7) =
-    (c.if-file-ne8.false, c.if-f-ne7.false) in
-    let n = code_part c.requires.0.kinded 6 c.part-first.ensures (first_code c.args.file second.0) c.if-first-eq0.false in
-    (c.requires.0.known, rw c.value_of.ensures n.small)
-
-pub returns-then-sign_of-sign : goal.returns-then-sign_of-sign
-returns-then-sign_of-sign c =
-    let second : let a = c.args in (a.file ≡ 8) × (a.f ≡ 7) =
-    (c.if-file-ne8.false, c.if-f-ne7.false) in
-    let permitted : let a = c.args in is_permitted a.file a.sign ≡ true =
-    sym c.is_permitted.ensures ∙ c.if-not-is_permitted.false in
-    let cutTexts : Fields =
-    let a = c.args in texts a.file a.s.now a.places.now in
-    let first_text : field 6 cutTexts ≡ c.part-first.result.now =
-    code_field c.requires.0.kinded 6 c.part-first.ensures (first_code c.args.file c.if-file-ne8.false) in
-    let first_given : is_empty (field 6 cutTexts) ≡ false =
-    rw first_text (ne_eqb _ 0 c.if-first-eq0.false) in
-    let files : Batch =
-    let a = c.args in thirteen a.f1.now a.f2.now a.f3.now a.f4.now a.f5.now a.f6.now a.f7.now a.f8.now a.f9.now a.f10.now a.f11.now a.f12.now a.f13.now in
-    let first_sign : c.sign_of.result ≡ sign_of files (value (field 6 cutTexts)) =
-    c.sign_of.ensures.0
-    ∙ ap (λ (n : ℕ). sign_of files n) (c.value_of.ensures ∙ ap (λ (t : Text). value t) (sym first_text)) in
-    let a = c.args in
-    let h = is_second a.file a.f second.0 second.1 in
-    let q = permitted in
-    let z = first_given in (
-      sign_same files a.file a.f cutTexts c.requires.2 c.requires.3 q h z first_sign c.if-sign_of-sign.true,
-      c.sign_of.ensures.1,
-    )
+    let n = code_part c.requires.0.kinded 6 c.part-first.ensures (first_code c.args.file c.if-file-ne8.false) (eqb-false _ _ (sym c.if-is_empty.ensures)) in
+    let k = c.requires.0.known in
+    (record { sound = k.sound; looks = k.looks; stops = λ e. absurd (omega arith) }, rw c.value_of.ensures n.small)
 
 pub returns : goal.returns
 returns c =
-    let second : let a = c.args in (a.file ≡ 8) × (a.f ≡ 7) =
-    (c.if-file-ne8.false, c.if-f-ne7.false) in
-    let permitted : let a = c.args in is_permitted a.file a.sign ≡ true =
-    sym c.is_permitted.ensures ∙ c.if-not-is_permitted.false in
-    let cutTexts : Fields =
-    let a = c.args in texts a.file a.s.now a.places.now in
-    let first_text : field 6 cutTexts ≡ c.part-first.result.now =
-    code_field c.requires.0.kinded 6 c.part-first.ensures (first_code c.args.file c.if-file-ne8.false) in
-    let first_given : is_empty (field 6 cutTexts) ≡ false =
-    rw first_text (ne_eqb _ 0 c.if-first-eq0.false) in
-    let files : Batch =
-    let a = c.args in thirteen a.f1.now a.f2.now a.f3.now a.f4.now a.f5.now a.f6.now a.f7.now a.f8.now a.f9.now a.f10.now a.f11.now a.f12.now a.f13.now in
-    let first_sign : c.sign_of.result ≡ sign_of files (value (field 6 cutTexts)) =
-    c.sign_of.ensures.0
-    ∙ ap (λ (n : ℕ). sign_of files n) (c.value_of.ensures ∙ ap (λ (t : Text). value t) (sym first_text)) in
     let a = c.args in
-    let h = is_second a.file a.f second.0 second.1 in
-    let q = permitted in
-    let z = first_given in (
-      sign_other files a.file a.f cutTexts c.requires.2 c.requires.3 q h z first_sign c.if-sign_of-sign.false,
-      c.sign_of.ensures.1,
-    )
+    let b : Batch = batch_of a.files.now in
+    let r : Fields = texts a.file a.row.bytes.now a.row.places.now in
+    let p = sym c.is_permitted.ensures ∙ c.if-not-is_permitted.false in
+    let n = first_code a.file c.if-file-ne8.false in
+    let z = code_is_empty c.requires.0.kinded 6 c.part-first.ensures n c.if-is_empty.ensures in
+    let number = code_number c.requires.0.kinded 6 c.part-first.ensures n c.value_of.ensures in
+    let sign = c.sign_of.ensures.0 ∙ ap (λ (x : ℕ). sign_of b x) number in
+    let h = is_second a.file a.f c.if-file-ne8.false c.if-f-ne7.false in
+    (sign_other b a.file a.f r c.requires.2 c.requires.3 p h z sign c.if-sign_of-sign.false, c.sign_of.ensures.1)

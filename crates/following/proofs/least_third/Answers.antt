@@ -1,6 +1,5 @@
 -- `following::least_third` meets its contract. The loop's invariant: the lesser of `least` and the least number from the record at `at` on is that
 -- of all.
-use Prim.Native.Nat.{◌-◌}
 use native.Mathlib.Omega.{arith}
 use Rattle.keys.proofs.KeyFileLaws.{key_here}
 use Rattle.find.proofs.TripLaws.{pass_start, pass_next, pass_end}

@@ -18,7 +18,7 @@ pub loop-step-init : goal.loop-step-init
 loop-step-init c =
     let a = c.args in
     let p = c.requires in
-    let w = walk_start a.f8.now a.order.now a.ways.now p.0 a.line a.trip p.1 p.2 _ c.first_of-step.ensures in
+    let w = walk_start a.f8.now a.paths.order.now a.paths.ways.now p.0 a.line a.trip p.1 p.2 _ c.first_of-step.ensures in
     (w.0, omega (arith, ap length w.1))
 
 pub cut-next-requires : goal.cut-next-requires
@@ -26,7 +26,7 @@ unfolding fields_of field_counts
 cut-next-requires c =
     let a = c.args in
     let p = c.requires in
-    (left_here 8 a.f8.now a.order.now a.ways.now p.0 c.loop-step.step.at c.loop-step.invariant.0.place c.loop-step-test.true, p.3)
+    left_here 8 a.f8.now a.paths.order.now a.paths.ways.now p.0 c.loop-step.step.at c.loop-step.invariant.0.place c.loop-step-test.true
 
 -- no more are counted than the file has bytes
 pub overflow_add-n : goal.overflow_add-n
@@ -40,14 +40,14 @@ unfolding fields_of field_counts
 step_on-step-requires c =
     let a = c.args in
     let p = c.requires in
-    (walks 8 a.f8.now a.order.now a.ways.now p.0 three_numbers c.loop-step.step.at c.loop-step.invariant.0.place, left_kinded 8 a.f8.now a.order.now a.ways.now p.0 c.loop-step.step.at c.loop-step.invariant.0.place c.loop-step-test.true c.cut-next.ensures, treads 8 a.f8.now a.line a.trip c.loop-step.step.at c.loop-step.invariant.0.place c.loop-step-test.true c.cut-next.ensures (c.loop-step.invariant.0.mine c.loop-step-test.true), p.1, p.2)
+    (walks 8 a.f8.now a.paths.order.now a.paths.ways.now p.0 three_numbers c.loop-step.step.at c.loop-step.invariant.0.place, left_kinded 8 a.f8.now a.paths.order.now a.paths.ways.now p.0 c.loop-step.step.at c.loop-step.invariant.0.place c.loop-step-test.true c.cut-next.ensures, treads 8 a.f8.now a.line a.trip c.loop-step.step.at c.loop-step.invariant.0.place c.loop-step-test.true c.cut-next.ensures (c.loop-step.invariant.0.mine c.loop-step-test.true), p.1, p.2)
 
 pub loop-step-smaller : goal.loop-step-smaller
 unfolding fields_of field_counts
 loop-step-smaller c =
     let a = c.args in
     let p = c.requires in
-    walk_less a.f8.now a.order.now a.ways.now p.0 a.line a.trip p.1 p.2 c.loop-step.step.at c.loop-step-test.true c.cut-next.ensures _ c.step_on-step.ensures
+    walk_less a.f8.now a.paths.order.now a.paths.ways.now p.0 a.line a.trip p.1 p.2 c.loop-step.step.at c.loop-step-test.true c.cut-next.ensures _ c.step_on-step.ensures
 
 pub loop-step-preserved : goal.loop-step-preserved
 unfolding fields_of field_counts
@@ -55,10 +55,10 @@ loop-step-preserved c =
     let a = c.args in
     let p = c.requires in
     let h = c.loop-step-test.true in
-    ((walk_next a.f8.now a.order.now a.ways.now p.0 a.line a.trip p.1 p.2 c.loop-step.step.at h c.cut-next.ensures _ c.step_on-step.ensures).0, count_next a.f8.now a.order.now a.ways.now p.0 a.line a.trip p.1 p.2 c.loop-step.step.at h c.cut-next.ensures _ c.step_on-step.ensures c.loop-step.n c.loop-step.invariant.1)
+    ((walk_next a.f8.now a.paths.order.now a.paths.ways.now p.0 a.line a.trip p.1 p.2 c.loop-step.step.at h c.cut-next.ensures _ c.step_on-step.ensures).0, count_next a.f8.now a.paths.order.now a.paths.ways.now p.0 a.line a.trip p.1 p.2 c.loop-step.step.at h c.cut-next.ensures _ c.step_on-step.ensures c.loop-step.n c.loop-step.invariant.1)
 
 pub returns : goal.returns
 returns c =
     let a = c.args in
     let p = c.requires in
-    count_end a.f8.now a.order.now a.ways.now p.0 a.line a.trip p.1 p.2 c.loop-step.n c.loop-step.step.at c.loop-step.invariant.1 c.loop-step-test.false
+    count_end a.f8.now a.paths.order.now a.paths.ways.now p.0 a.line a.trip p.1 p.2 c.loop-step.n c.loop-step.step.at c.loop-step.invariant.1 c.loop-step-test.false

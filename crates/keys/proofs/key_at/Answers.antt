@@ -7,11 +7,13 @@ use Rattle.keys.specs.Ranks.{record_at}
 use Rattle.keys.proofs.TableLaws.{keyed_two, keyed_nine, keyed_three}
 use Rattle.keys.proofs.ReadLaws.{here_most, first_here, first_small, first_room, key_one, second_here, second_small, second_room, key_two, third_here, key_three}
 use Rattle.keys.proofs.key_at.Goals as goal
+use Rattle.keys.proofs.key_at.Goals.{then-file-lt8-via-then-file-lt8, then-file-lt8-via-else-file-lt8+then-file-eq9}
 
 pub number_at-a-requires : goal.number_at-a-requires
 number_at-a-requires c =
     let a = c.args in
-    here_most a.s.now (a.at + 1) (get_or (record_at a.file a.s.now a.at) 0 []) (first_here a.file a.s.now a.at c.requires)
+    let h = first_here a.file a.s.now a.at c.requires in
+    (omega (arith, h.room), here_most a.s.now (a.at + 1) (get_or (record_at a.file a.s.now a.at) 0 []) h)
 
 pub returns-then-file-lt6 : goal.returns-then-file-lt6
 returns-then-file-lt6 c =
@@ -29,8 +31,8 @@ pub number_at-b-requires : goal.number_at-b-requires
 number_at-b-requires c =
     let a = c.args in
     let n = c.number_at-a in
-    here_most a.s.now (n.result.end + 3) (get_or (record_at a.file a.s.now a.at) 1 [])
-    (second_here a.file a.s.now a.at c.requires n.result.value n.result.end n.ensures (omega arith))
+    let h = second_here a.file a.s.now a.at c.requires n.result.value n.result.end n.ensures (omega arith) in
+    (omega (arith, h.room), here_most a.s.now (n.result.end + 3) (get_or (record_at a.file a.s.now a.at) 1 []) h)
 
 pub overflow_mul-hi : goal.overflow_mul-hi
 overflow_mul-hi c =
@@ -57,16 +59,7 @@ returns-then-file-lt8 c =
     let a = c.args in
     let more : 6 ≤ a.file = omega arith in
     key_two a.file a.s.now a.at c.requires n.result.value n.result.end n.ensures more m.result.value m.result.end m.ensures
-    (keyed_two a.file more (omega arith))
-
-pub returns-then-file-eq9 : goal.returns-then-file-eq9
-returns-then-file-eq9 c =
-    let m = c.number_at-b in
-    let n = c.number_at-a in
-    let a = c.args in
-    let more : 6 ≤ a.file = omega arith in
-    key_two a.file a.s.now a.at c.requires n.result.value n.result.end n.ensures more m.result.value m.result.end m.ensures
-    (keyed_nine a.file (omega arith))
+    (elim c.then-file-lt8.branch [ then-file-lt8-via-then-file-lt8 w ↦ keyed_two a.file more (omega arith) | then-file-lt8-via-else-file-lt8+then-file-eq9 w ↦ keyed_nine a.file (omega arith) ])
 
 pub overflow_add-b : goal.overflow_add-b
 overflow_add-b c =
@@ -83,8 +76,8 @@ number_at-c-requires c =
     let a = c.args in
     let more : 6 ≤ a.file = omega arith in
     let all = keyed_three a.file (omega arith) c.requires.keyed.1 (λ e. omega arith) in
-    here_most a.s.now (m.result.end + 3) (get_or (record_at a.file a.s.now a.at) 2 [])
-    (third_here a.file a.s.now a.at c.requires n.result.value n.result.end n.ensures more m.result.value m.result.end m.ensures all)
+    let h = third_here a.file a.s.now a.at c.requires n.result.value n.result.end n.ensures more m.result.value m.result.end m.ensures all in
+    (omega (arith, h.room), here_most a.s.now (m.result.end + 3) (get_or (record_at a.file a.s.now a.at) 2 []) h)
 
 pub returns : goal.returns
 returns c =

@@ -1,5 +1,4 @@
 -- `lines::line_after` meets its contract. The loop's invariant: the line that `at` stands in ends where the line that `i` stands in does.
-use Prim.Native.Nat.{◌-◌}
 use native.Mathlib.Omega.{arith}
 use Rattle.lines.proofs.LineLaws.{lead_hit, lead_miss, lead_end}
 use Rattle.lines.proofs.line_after.Goals as goal

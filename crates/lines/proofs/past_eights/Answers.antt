@@ -1,6 +1,6 @@
 -- `lines::past_eights` meets its contract. The loop's invariant is that of `line_after`; a turn passes two fours.
 use mathlib.Core.Path.{◌≡◌}
-use Prim.Native.Nat.{◌+◌, ◌-◌}
+use Prim.Native.Nat.{◌+◌}
 use native.Mathlib.Omega.{arith}
 use Rattle.lines.proofs.past_eights.Goals as goal
 

@@ -1,6 +1,5 @@
 -- `lines::record_after` meets its contract: the LF behind the record is the next one from within it, too.
 use mathlib.Core.Path.{◌∙◌}
-use native.Mathlib.Omega.{arith}
 use Rattle.lines.proofs.LineLaws.{Skips, skips}
 use Rattle.lines.proofs.record_after.Goals as goal
 

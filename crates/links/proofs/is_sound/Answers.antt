@@ -1,19 +1,22 @@
 -- `links::is_sound` meets its contract.
+use mathlib.Core.Path.{◌≡◌, refl}
+use mathlib.Core.Bool.{false}
+use lib.Dec.{eqb}
 use Rattle.link.specs.Stage.{numbered_linked}
+use Rattle.link.specs.declared.Linked.{Linked}
 use Rattle.links.proofs.is_sound.Goals as goal
+
+-- any other answer has a number
+not_sound : (found : Linked) → (found ≡ Linked.Sound → ⊥) → false ≡ eqb (numbered_linked found).number 0
+unfolding numbered_linked
+not_sound Linked.Sound n = absurd (n refl)
+not_sound (Linked.Used file k) n = refl
+not_sound (Linked.Dangling file k f) n = refl
+not_sound (Linked.Misplaced file k f) n = refl
 
 pub returns-in-Sound : goal.returns-in-Sound
 unfolding numbered_linked
 returns-in-Sound c = rw c.in-Sound.is
 
-pub returns-in-Used : goal.returns-in-Used
-unfolding numbered_linked
-returns-in-Used c = rw c.in-Used.is
-
-pub returns-in-Dangling : goal.returns-in-Dangling
-unfolding numbered_linked
-returns-in-Dangling c = rw c.in-Dangling.is
-
-pub returns-in-Misplaced : goal.returns-in-Misplaced
-unfolding numbered_linked
-returns-in-Misplaced c = rw c.in-Misplaced.is
+pub returns-in_default : goal.returns-in_default
+returns-in_default c = not_sound c.args.found c.in_default.not-Sound

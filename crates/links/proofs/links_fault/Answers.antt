@@ -7,4 +7,4 @@ use Rattle.links.proofs.links_fault.Goals as goal
 pub files_fault-requires : goal.files_fault-requires
 files_fault-requires c =
     let p = c.requires in
-    (p.0, record { size = p.1; routes = p.2; lasts = lasts_start _ p.0 }, p.3, recalls_zeros _ 4093 (omega arith))
+    (p.0, record { size = p.1; routes = p.2; lasts = lasts_start _ p.0 }, recalls_zeros _ 4093 (omega arith))

@@ -13,25 +13,23 @@ pub loop-i-init : goal.loop-i-init
 loop-i-init c =
     let a = c.args in
     let sign : ℕ → ℕ = λ k. sign_in (records_in (fields_of 3) a.f3.now) k in
-    (omega arith, coming_first sign a.from a.to (texts a.file a.s.now a.places.now) _ c.no_marks-m.ensures)
+    coming_first sign a.from a.to (texts a.file a.row.bytes.now a.row.places.now) _ c.no_marks-m.ensures
 
 pub code_sign-requires : goal.code_sign-requires
 code_sign-requires c =
     let p = c.requires in
-    (p.0, p.1 c.loop-i.i c.loop-i.invariant.0 c.loop-i-test.true, p.3, p.4)
+    (p.0, p.1 c.loop-i.i (omega arith) (omega arith), p.3)
 
 pub loop-i-preserved : goal.loop-i-preserved
 loop-i-preserved c =
     let sign : ℕ → ℕ = λ k. sign_in (records_in (fields_of 3) c.args.f3.now) k in
-    let cut : Fields = texts c.args.file c.args.s.now c.args.places.now in
-    let a = c.args in (
-      omega (arith, c.loop-i.invariant.0),
-      coming_next sign c.loop-i.i a.to cut _ _ c.loop-i.invariant.1 c.loop-i-test.true _ c.code_sign.ensures _ c.marked-m.ensures,
-    )
+    let cut : Fields = texts c.args.file c.args.row.bytes.now c.args.row.places.now in
+    let a = c.args in
+    coming_next sign c.loop-i.i a.to cut _ _ c.loop-i.invariant (omega arith) _ c.code_sign.ensures _ c.marked-m.ensures
 
 pub returns : goal.returns
 returns c =
     let sign : ℕ → ℕ = λ k. sign_in (records_in (fields_of 3) c.args.f3.now) k in
-    let cut : Fields = texts c.args.file c.args.s.now c.args.places.now in
+    let cut : Fields = texts c.args.file c.args.row.bytes.now c.args.row.places.now in
     let a = c.args in
-    coming_last sign c.loop-i.i a.to cut _ _ c.loop-i.invariant.1 c.loop-i-test.false
+    coming_last sign c.loop-i.i a.to cut _ _ c.loop-i.invariant (omega arith)

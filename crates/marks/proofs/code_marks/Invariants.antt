@@ -1,5 +1,5 @@
 -- `marks::code_marks` meets its contract. The loop's invariant: what came and what is left of the codes are all of them.
-use Prim.Native.Nat.{ℕ, ◌+◌, ◌-◌, ◌≤◌}
+use Prim.Native.Nat.{ℕ, ◌+◌, ◌-◌}
 use Rattle.file.specs.Files.{fields_of}
 use Rattle.file.specs.Records.{records_in}
 use Rattle.link.specs.Signs.{sign_in}
@@ -10,7 +10,4 @@ use Rattle.marks.proofs.code_marks.Given as goal
 
 abbrev pub invariant-loop-i : goal.invariant-loop-i
 invariant-loop-i l = let sign : ℕ → ℕ = λ c. sign_in (records_in (fields_of 3) l.f3) c in
-    (l.from ≤ l.i) × Coming sign l.i l.to (texts l.file l.s l.places) (signs_from sign (l.from + 1) (l.to - l.from) (texts l.file l.s l.places)) l.m
-
-abbrev pub decreases-loop-i : goal.decreases-loop-i
-decreases-loop-i l = l.to - l.i
+    Coming sign l.i l.to (texts l.file l.row.bytes.now l.row.places.now) (signs_from sign (l.from + 1) (l.to - l.from) (texts l.file l.row.bytes.now l.row.places.now)) l.m

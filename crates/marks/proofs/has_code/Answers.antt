@@ -13,29 +13,26 @@ use Rattle.marks.proofs.has_code.Goals as goal
 pub code_sign-requires : goal.code_sign-requires
 code_sign-requires c =
     let p = c.requires in
-    (p.1, p.2 c.loop-i.i c.loop-i.invariant.0 c.loop-i-test.true, p.4, p.5)
+    (p.1, p.2 c.loop-i.i (omega arith) (omega arith), p.4)
 
 pub returns-then-code_sign-x : goal.returns-then-code_sign-x
 returns-then-code_sign-x c =
     let sign : ℕ → ℕ = λ k. sign_in (records_in (fields_of 3) c.args.f3.now) k in
-    let cut : Fields = texts c.args.file c.args.s.now c.args.places.now in
+    let cut : Fields = texts c.args.file c.args.row.bytes.now c.args.row.places.now in
     let a = c.args in
-    sym (codes_here sign a.x c.loop-i.i a.to cut c.requires.0 c.loop-i-test.true _ c.code_sign.ensures c.if-code_sign-x.true)
-    ∙ c.loop-i.invariant.1
+    sym (codes_here sign a.x c.loop-i.i a.to cut c.requires.0 (omega arith) _ c.code_sign.ensures c.if-code_sign-x.true)
+    ∙ c.loop-i.invariant
 
 pub loop-i-preserved : goal.loop-i-preserved
 loop-i-preserved c =
     let sign : ℕ → ℕ = λ k. sign_in (records_in (fields_of 3) c.args.f3.now) k in
-    let cut : Fields = texts c.args.file c.args.s.now c.args.places.now in
+    let cut : Fields = texts c.args.file c.args.row.bytes.now c.args.row.places.now in
     let a = c.args in
-    (omega (arith, c.loop-i.invariant.0), sym (codes_past sign a.x c.loop-i.i a.to cut c.requires.0 c.loop-i-test.true _ c.code_sign.ensures c.if-code_sign-x.false) ∙ c.loop-i.invariant.1)
+    sym (codes_past sign a.x c.loop-i.i a.to cut c.requires.0 (omega arith) _ c.code_sign.ensures c.if-code_sign-x.false) ∙ c.loop-i.invariant
 
 pub returns : goal.returns
 returns c =
     let sign : ℕ → ℕ = λ k. sign_in (records_in (fields_of 3) c.args.f3.now) k in
-    let cut : Fields = texts c.args.file c.args.s.now c.args.places.now in
+    let cut : Fields = texts c.args.file c.args.row.bytes.now c.args.row.places.now in
     let a = c.args in
-    sym (codes_none sign a.x c.loop-i.i a.to cut c.requires.0 c.loop-i-test.false) ∙ c.loop-i.invariant.1
-
-pub loop-i-init : goal.loop-i-init
-loop-i-init c = (omega arith, refl)
+    sym (codes_none sign a.x c.loop-i.i a.to cut c.requires.0 (omega arith)) ∙ c.loop-i.invariant

@@ -12,14 +12,14 @@ unfolding fields_of field_counts
 cut-requires c =
     let a = c.args in
     let p = c.requires in
-    (left_here 7 a.f7.now a.order.now a.ways.now p.3 a.at p.1 p.2, p.5)
+    left_here 7 a.f7.now a.paths.order.now a.paths.ways.now p.3 a.at p.1 p.2
 
 pub has_code-requires : goal.has_code-requires
 unfolding fields_of field_counts
 has_code-requires c =
     let a = c.args in
     let p = c.requires in
-    (p.0, left_kinded 7 a.f7.now a.order.now a.ways.now p.3 a.at p.1 p.2 c.cut.ensures, line_stop_codes, omega arith, p.4, p.5)
+    (p.0, left_kinded 7 a.f7.now a.paths.order.now a.paths.ways.now p.3 a.at p.1 p.2 c.cut.ensures, line_stop_codes, omega arith, p.4)
 
 pub returns : goal.returns
 unfolding fields_of field_counts

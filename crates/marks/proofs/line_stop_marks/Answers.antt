@@ -12,14 +12,14 @@ unfolding fields_of field_counts
 cut-requires c =
     let a = c.args in
     let p = c.requires in
-    (left_here 7 a.f7.now a.order.now a.ways.now p.2 a.at p.0 p.1, p.4)
+    left_here 7 a.f7.now a.paths.order.now a.paths.ways.now p.2 a.at p.0 p.1
 
 pub code_marks-requires : goal.code_marks-requires
 unfolding fields_of field_counts
 code_marks-requires c =
     let a = c.args in
     let p = c.requires in
-    (left_kinded 7 a.f7.now a.order.now a.ways.now p.2 a.at p.0 p.1 c.cut.ensures, line_stop_codes, omega arith, p.3, p.4)
+    (left_kinded 7 a.f7.now a.paths.order.now a.paths.ways.now p.2 a.at p.0 p.1 c.cut.ensures, line_stop_codes, omega arith, p.3)
 
 pub returns : goal.returns
 unfolding fields_of field_counts

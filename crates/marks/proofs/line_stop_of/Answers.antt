@@ -30,7 +30,7 @@ part-requires-2 c = c.requires.0.parted 2 (omega arith)
 pub value_of-tariff-requires : goal.value_of-tariff-requires
 value_of-tariff-requires c =
     let a = c.args in
-    let n = third_text 8 a.f8.now a.places.now (omega arith, omega arith) three_numbers c.requires.0 _ c.part-2.ensures in
+    let n = third_text 8 a.row.bytes.now a.row.places.now (omega arith, omega arith) three_numbers c.requires.0 _ c.part-2.ensures in
     (n.digits, n.most)
 
 pub by_two-requires : goal.by_two-requires
@@ -42,9 +42,9 @@ by_two-requires c =
     let tariff : ℕ =
     c.value_of-tariff.result in
     let cut : Fields =
-    texts 8 c.args.f8.now c.args.places.now in
+    texts 8 c.args.row.bytes.now c.args.row.places.now in
     let tariff_text : Third 8 cut c.part-2.result.now =
-    third_text 8 c.args.f8.now c.args.places.now (omega arith, omega arith) three_numbers c.requires.0 _ c.part-2.ensures in
+    third_text 8 c.args.row.bytes.now c.args.row.places.now (omega arith, omega arith) three_numbers c.requires.0 _ c.part-2.ensures in
     let tariff_is : tariff ≡ third 8 cut =
     c.value_of-tariff.ensures ∙ tariff_text.worth in
     let tariff_small : tariff < none =
@@ -55,7 +55,7 @@ by_two-requires c =
 pub returns : goal.returns
 returns c =
     let cut : Fields =
-    texts 8 c.args.f8.now c.args.places.now in
+    texts 8 c.args.row.bytes.now c.args.row.places.now in
     let line : ℕ =
     c.value_of-line.result in
     let tariff : ℕ =
@@ -64,7 +64,7 @@ returns c =
     c.value_of-line.ensures
     ∙ ap (λ (t : Text). value t) (sym (number_text c.requires.0 1 c.part.ensures line_number)) in
     let tariff_text : Third 8 cut c.part-2.result.now =
-    third_text 8 c.args.f8.now c.args.places.now (omega arith, omega arith) three_numbers c.requires.0 _ c.part-2.ensures in
+    third_text 8 c.args.row.bytes.now c.args.row.places.now (omega arith, omega arith) three_numbers c.requires.0 _ c.part-2.ensures in
     let tariff_is : tariff ≡ third 8 cut =
     c.value_of-tariff.ensures ∙ tariff_text.worth in
     let line_small : line < none =

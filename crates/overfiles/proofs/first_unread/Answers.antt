@@ -1,12 +1,12 @@
 -- `overfiles::first_unread` meets its contract. The loop's invariant: the first fault from `file` on is the first of all.
 use mathlib.Core.Bool.{not}
 use mathlib.Core.Path.{ap}
-use mathlib.Core.Path.{◌≡◌, refl, sym, ◌∙◌}
-use Prim.Native.Nat.{◌-◌}
+use mathlib.Core.Path.{◌≡◌, sym, ◌∙◌}
 use native.Mathlib.Omega.{arith}
 use Rattle.overfiles.specs.OneFile.{bytes_fault}
 use Rattle.overfiles.proofs.FileLaws.{some_fields, read_fault, files_stop, files_next}
-use Rattle.thirteen.specs.Batch.{Batch, thirteen}
+use Rattle.thirteen.specs.Batch.{Batch}
+use Rattle.thirteen.specs.Lent.{batch_of}
 use Rattle.thirteen.proofs.OverLaws.{over_done}
 use Rattle.fault.specs.Answers.{numbered_fault}
 use Rattle.overfiles.proofs.first_unread.Goals as goal
@@ -17,27 +17,21 @@ read-requires c =
 
 pub returns-then-not-is_none : goal.returns-then-not-is_none
 returns-then-not-is_none c =
-    let files : Batch =
-    let a = c.args in thirteen a.f1.now a.f2.now a.f3.now a.f4.now a.f5.now a.f6.now a.f7.now a.f8.now a.f9.now a.f10.now a.f11.now a.f12.now a.f13.now in
+    let files : Batch = batch_of c.args.files.now in
     let fault_here : numbered_fault c.outcome_fault-fault.result ≡ (bytes_fault files) c.loop-file.file =
     read_fault files c.loop-file.file _ c.file_of-s.ensures _ c.fields_of.ensures _ _ c.outcome_fault-fault.ensures c.read.ensures in
-    files_stop _ _ c.is_none.ensures (bytes_fault files) c.loop-file.file c.loop-file-test.true fault_here (ap not c.if-not-is_none.true) ∙ c.loop-file.invariant.2
+    files_stop _ _ c.is_none.ensures (bytes_fault files) c.loop-file.file c.loop-file-test.true fault_here (ap not c.if-not-is_none.true) ∙ c.loop-file.invariant
 
 pub loop-file-preserved : goal.loop-file-preserved
 loop-file-preserved c =
-    let files : Batch =
-    let a = c.args in thirteen a.f1.now a.f2.now a.f3.now a.f4.now a.f5.now a.f6.now a.f7.now a.f8.now a.f9.now a.f10.now a.f11.now a.f12.now a.f13.now in
+    let files : Batch = batch_of c.args.files.now in
     let fault_here : numbered_fault c.outcome_fault-fault.result ≡ (bytes_fault files) c.loop-file.file =
     read_fault files c.loop-file.file _ c.file_of-s.ensures _ c.fields_of.ensures _ _ c.outcome_fault-fault.ensures c.read.ensures in
     let n = files_next _ _ c.is_none.ensures (bytes_fault files) c.loop-file.file c.loop-file-test.true fault_here (ap not c.if-not-is_none.false) in
-    (omega arith, omega arith, sym n ∙ c.loop-file.invariant.2)
+    sym n ∙ c.loop-file.invariant
 
 pub returns : goal.returns
 unfolding numbered_fault
 returns c =
-    let files : Batch =
-    let a = c.args in thirteen a.f1.now a.f2.now a.f3.now a.f4.now a.f5.now a.f6.now a.f7.now a.f8.now a.f9.now a.f10.now a.f11.now a.f12.now a.f13.now in
-    sym (over_done (bytes_fault files) c.loop-file.file c.loop-file-test.false) ∙ c.loop-file.invariant.2
-
-pub loop-file-init : goal.loop-file-init
-loop-file-init c = (omega arith, omega arith, refl)
+    let files : Batch = batch_of c.args.files.now in
+    sym (over_done (bytes_fault files) c.loop-file.file (omega arith)) ∙ c.loop-file.invariant

@@ -1,42 +1,38 @@
 -- `parts::put_all` meets its contract. The loop's invariant speaks of what is left: the parts of the files from `file` on, laid over the list as it is,
 -- give the list that is wanted.
 use mathlib.Core.Path.{refl, ◌∙◌}
-use Prim.Native.Nat.{◌-◌, ◌<◌}
+use Prim.Native.Nat.{◌<◌}
 use native.Mathlib.Omega.{arith}
-use Rattle.thirteen.specs.Batch.{Batch, thirteen}
+use Rattle.thirteen.specs.Batch.{Batch}
+use Rattle.thirteen.specs.Lent.{batch_of}
 use Rattle.parts.proofs.PartLaws.{chosen, parts_counted, parts_laid, parts_all}
 use Rattle.parts.proofs.put_all.Goals as goal
 
 pub put_part-at-requires : goal.put_part-at-requires
 put_part-at-requires c =
-    let files : Batch =
-    let a = c.args in thirteen a.f1.now a.f2.now a.f3.now a.f4.now a.f5.now a.f6.now a.f7.now a.f8.now a.f9.now a.f10.now a.f11.now a.f12.now a.f13.now in
+    let files : Batch = batch_of c.args.files.now in
     let h : c.loop-file.file < 11 = omega (arith, c.loop-file-test) in
-    let k = chosen files c.loop-file.file _ c.requires.0 (c.loop-file.invariant.0, omega arith) c.file_of-s.ensures in
-    (k.0, k.1, omega (arith, c.loop-file.invariant.3, parts_counted files c.loop-file.file h c.file_of-s.ensures refl))
+    let k = chosen files c.loop-file.file _ c.requires.0 (omega arith, omega arith) c.file_of-s.ensures in
+    (k.0, k.1, omega (arith, c.loop-file.invariant.1, parts_counted files c.loop-file.file h c.file_of-s.ensures refl))
 
 pub loop-file-preserved : goal.loop-file-preserved
 loop-file-preserved c =
-    let files : Batch =
-    let a = c.args in thirteen a.f1.now a.f2.now a.f3.now a.f4.now a.f5.now a.f6.now a.f7.now a.f8.now a.f9.now a.f10.now a.f11.now a.f12.now a.f13.now in
+    let files : Batch = batch_of c.args.files.now in
     let h : c.loop-file.file < 11 = omega (arith, c.loop-file-test) in
     let count = parts_counted files c.loop-file.file h c.file_of-s.ensures refl in
     let size = c.put_part-at.auto.list in (
-      omega (arith, c.loop-file.invariant.0),
-      omega arith,
-      size ∙ c.loop-file.invariant.2,
-      omega (arith, c.loop-file.invariant.3, count, c.put_part-at.ensures.1, size),
-      parts_laid files c.loop-file.file c.loop-file.list c.loop-file.at h c.loop-file.invariant.3 c.file_of-s.ensures c.put_part-at.ensures.0 c.put_part-at.ensures.1 ∙ c.loop-file.invariant.4,
+      size ∙ c.loop-file.invariant.0,
+      omega (arith, c.loop-file.invariant.1, count, c.put_part-at.ensures.1, size),
+      parts_laid files c.loop-file.file c.loop-file.list c.loop-file.at h c.loop-file.invariant.1 c.file_of-s.ensures c.put_part-at.ensures.0 c.put_part-at.ensures.1 ∙ c.loop-file.invariant.2,
     )
 
 pub returns : goal.returns
 returns c =
-    let files : Batch =
-    let a = c.args in thirteen a.f1.now a.f2.now a.f3.now a.f4.now a.f5.now a.f6.now a.f7.now a.f8.now a.f9.now a.f10.now a.f11.now a.f12.now a.f13.now in
-    parts_all files c.loop-file.file c.loop-file.list c.loop-file.at (omega (arith, c.loop-file-test)) c.loop-file.invariant.4
+    let files : Batch = batch_of c.args.files.now in
+    parts_all files c.loop-file.file c.loop-file.list c.loop-file.at (omega (arith, c.loop-file-test)) c.loop-file.invariant.2
 
 pub loop-file-init : goal.loop-file-init
-loop-file-init c = (omega arith, omega arith, refl, omega (arith, c.requires.1), refl)
+loop-file-init c = (refl, omega (arith, c.requires.1), refl)
 
 pub shape_of-list : goal.shape_of-list
-shape_of-list c = c.loop-file.invariant.2
+shape_of-list c = c.loop-file.invariant.0

@@ -4,17 +4,12 @@ use mathlib.Core.Path.{◌≡◌}
 use Prim.Native.Nat.{◌+◌, ◌-◌, ◌≤◌}
 use lib.ListN.{length}
 use Rattle.laws.specs.Splice.{splice}
-use Rattle.thirteen.specs.Batch.{thirteen}
+use Rattle.thirteen.specs.Lent.{batch_of}
 use Rattle.parts.specs.Parts.{parts_from, hint_of}
 use Rattle.parts.proofs.put_all.Given as goal
 
 abbrev pub invariant-loop-file : goal.invariant-loop-file
-invariant-loop-file l = let b = thirteen l.f1 l.f2 l.f3 l.f4 l.f5 l.f6 l.f7 l.f8 l.f9 l.f10 l.f11 l.f12 l.f13 in
-    (2 ≤ l.file)
-    × (l.file ≤ 11)
-    × (length l.list ≡ length l.initial.list)
+invariant-loop-file l = let b = batch_of l.files in
+    (length l.list ≡ length l.initial.list)
     × (l.at + length (parts_from b l.file (11 - l.file)) ≤ length l.list)
     × (splice l.list l.at (parts_from b l.file (11 - l.file)) ≡ splice l.initial.list 0 (hint_of b))
-
-abbrev pub decreases-loop-file : goal.decreases-loop-file
-decreases-loop-file l = 11 - l.file

@@ -1,7 +1,7 @@
 -- `parts::put_starts` meets its contract. The loop's invariant speaks of what is left: the places of the records that are left, laid over the list as it
 -- is, give the list that is wanted.
 use mathlib.Core.Path.{refl, sym, ap, ◌∙◌}
-use Prim.Native.Nat.{◌-◌, ◌<◌}
+use Prim.Native.Nat.{◌<◌}
 use native.Mathlib.Omega.{arith}
 use lib.ListN.{length, length-set}
 use Rattle.file.specs.Files.{fields_of}

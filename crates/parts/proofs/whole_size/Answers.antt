@@ -1,57 +1,38 @@
 -- `parts::whole_size` meets its contract. The loop's invariant: `size` and the places of the files from `file` on are all.
 use mathlib.Core.Path.{ap}
-use Prim.Native.Nat.{◌-◌, ◌≤◌, ◌<◌}
+use Prim.Native.Nat.{◌≤◌, ◌<◌}
 use native.Mathlib.Omega.{arith}
 use lib.ListN.{length}
 use Rattle.file.specs.Files.{longest}
 use Rattle.keys.specs.KeyFiles.{KeyFile}
-use Rattle.thirteen.specs.Batch.{Batch, thirteen}
+use Rattle.thirteen.specs.Batch.{Batch}
+use Rattle.thirteen.specs.Lent.{batch_of}
 use Rattle.parts.proofs.PartLaws.{chosen, part_few, parts_counted, parts_done}
 use Rattle.parts.proofs.whole_size.Goals as goal
 
 pub loop-file-preserved : goal.loop-file-preserved
 loop-file-preserved c =
-    let files : Batch =
-    let a = c.args in thirteen a.f1.now a.f2.now a.f3.now a.f4.now a.f5.now a.f6.now a.f7.now a.f8.now a.f9.now a.f10.now a.f11.now a.f12.now a.f13.now in
+    let files : Batch = batch_of c.args.files.now in
     let here : KeyFile c.loop-file.file c.file_of-s.result.now × (length c.file_of-s.result.now ≤ longest) =
-    chosen files c.loop-file.file _ c.requires (c.loop-file.invariant.0, omega (arith, c.loop-file-test)) c.file_of-s.ensures in
+    chosen files c.loop-file.file _ c.requires (omega arith, omega (arith, c.loop-file-test)) c.file_of-s.ensures in
     let few : c.size_of-size.result ≤ longest =
     let k = here in
     omega (arith, c.size_of-size.ensures, k.1, part_few c.loop-file.file _ k.0) in
     let h : c.loop-file.file < 11 = omega (arith, c.loop-file-test) in
     let z = parts_counted files c.loop-file.file h c.file_of-s.ensures c.size_of-size.ensures in
-    (omega (arith, c.loop-file.invariant.0), omega arith, omega (arith, c.loop-file.invariant.2, few), omega (arith, z, c.loop-file.invariant.3))
+    (omega (arith, c.loop-file.invariant.0, few), omega (arith, z, c.loop-file.invariant.1))
 
 pub returns : goal.returns
 returns c =
-    let files : Batch =
-    let a = c.args in thirteen a.f1.now a.f2.now a.f3.now a.f4.now a.f5.now a.f6.now a.f7.now a.f8.now a.f9.now a.f10.now a.f11.now a.f12.now a.f13.now in
-    omega (arith, c.loop-file.invariant.3, ap length (parts_done files c.loop-file.file (omega (arith, c.loop-file-test))))
-
-pub loop-file-init : goal.loop-file-init
-loop-file-init c = (omega arith, omega arith, omega arith, omega arith)
-
-pub size_of-size-requires : goal.size_of-size-requires
-size_of-size-requires c =
-    let files : Batch =
-    let a = c.args in thirteen a.f1.now a.f2.now a.f3.now a.f4.now a.f5.now a.f6.now a.f7.now a.f8.now a.f9.now a.f10.now a.f11.now a.f12.now a.f13.now in
-    let here : KeyFile c.loop-file.file c.file_of-s.result.now × (length c.file_of-s.result.now ≤ longest) =
-    chosen files c.loop-file.file _ c.requires (c.loop-file.invariant.0, omega (arith, c.loop-file-test)) c.file_of-s.ensures in
-    here.0
+    let files : Batch = batch_of c.args.files.now in
+    omega (arith, c.loop-file.invariant.1, ap length (parts_done files c.loop-file.file (omega (arith, c.loop-file-test))))
 
 pub overflow_add-size : goal.overflow_add-size
 overflow_add-size c =
-    let files : Batch =
-    let a = c.args in thirteen a.f1.now a.f2.now a.f3.now a.f4.now a.f5.now a.f6.now a.f7.now a.f8.now a.f9.now a.f10.now a.f11.now a.f12.now a.f13.now in
+    let files : Batch = batch_of c.args.files.now in
     let here : KeyFile c.loop-file.file c.file_of-s.result.now × (length c.file_of-s.result.now ≤ longest) =
-    chosen files c.loop-file.file _ c.requires (c.loop-file.invariant.0, omega (arith, c.loop-file-test)) c.file_of-s.ensures in
+    chosen files c.loop-file.file _ c.requires (omega arith, omega (arith, c.loop-file-test)) c.file_of-s.ensures in
     let few : c.size_of-size.result ≤ longest =
     let k = here in
     omega (arith, c.size_of-size.ensures, k.1, part_few c.loop-file.file _ k.0) in
-    omega (arith, few, c.loop-file.invariant.2, c.loop-file-test)
-
-pub overflow_add-file : goal.overflow_add-file
-overflow_add-file c = omega (arith, c.loop-file-test)
-
-pub loop-file-smaller : goal.loop-file-smaller
-loop-file-smaller c = omega (arith, c.loop-file-test)
+    omega (arith, few, c.loop-file.invariant.0, c.loop-file-test)

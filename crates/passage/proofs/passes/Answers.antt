@@ -7,4 +7,4 @@ use Rattle.passage.proofs.passes.Goals as goal
 pub passes_with-requires : goal.passes_with-requires
 passes_with-requires c =
     let p = c.requires in
-    (p.0, p.1, record { sound = p.2; looks = record { size = p.3; routes = p.4; lasts = lasts_start _ p.2 }; table = p.5; stops = p.6 }, recalls_zeros _ 4093 (omega arith))
+    (p.0, p.1, record { sound = p.2; looks = record { size = p.3; routes = p.4; lasts = lasts_start _ p.2 }; stops = p.5 }, recalls_zeros _ 4093 (omega arith))

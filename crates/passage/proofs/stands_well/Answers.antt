@@ -3,12 +3,12 @@ use mathlib.Core.Path.{sym, ◌∙◌}
 use Rattle.laws.specs.Tests.{never}
 use Rattle.passage.proofs.stands_well.Goals as goal
 
-pub returns-then-not-meets_rules : goal.returns-then-not-meets_rules
-returns-then-not-meets_rules c =
+pub returns-else-meets_rules : goal.returns-else-meets_rules
+returns-else-meets_rules c =
     let p = c.requires in
-    ((λ t. never t), p.0.known.looks.lasts, p.1)
+    ((λ t. never (sym c.if-meets_rules.false ∙ t)), p.0.known.looks.lasts, p.1)
 
-pub returns : goal.returns
-returns c =
+pub returns-then-meets_rules : goal.returns-then-meets_rules
+returns-then-meets_rules c =
     let x = c.record_met.ensures in
-    ((λ t. (sym c.meets_rules.ensures ∙ c.if-not-meets_rules.false, x.0 t)), x.1, x.2)
+    ((λ t. (sym c.meets_rules.ensures ∙ c.if-meets_rules.true, x.0 t)), x.1, x.2)

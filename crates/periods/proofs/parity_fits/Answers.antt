@@ -1,24 +1,17 @@
--- `parity_fits` meets its contract: each branch answers one test of the definition, by `odd_week`.
+-- `parity_fits` meets its contract: each case answers one test of the definition, by `odd_week`.
+use native.Mathlib.Omega.{arith}
 use Rattle.laws.specs.Tests.{tests}
 use Rattle.periods.specs.Periods.{parity_fits}
 use Rattle.periods.proofs.parity_fits.Goals as goal
 
-pub returns-then-kind-eq5 : goal.returns-then-kind-eq5
+pub returns-in-5 : goal.returns-in-5
 unfolding parity_fits
-returns-then-kind-eq5 c = rw c.odd_week.ensures (search tests)
+returns-in-5 c = rw c.odd_week.ensures (grind (tests, arith))
 
-pub returns-then-kind-eq7 : goal.returns-then-kind-eq7
+pub returns-in-6 : goal.returns-in-6
 unfolding parity_fits
-returns-then-kind-eq7 c = rw c.odd_week-then-kind-eq7.ensures (search tests)
+returns-in-6 c = rw c.odd_week-in-6.ensures (grind (tests, arith))
 
-pub returns-then-kind-eq6 : goal.returns-then-kind-eq6
+pub returns-in_default : goal.returns-in_default
 unfolding parity_fits
-returns-then-kind-eq6 c = rw c.odd_week-then-kind-eq6.ensures (search tests)
-
-pub returns-then-kind-eq8 : goal.returns-then-kind-eq8
-unfolding parity_fits
-returns-then-kind-eq8 c = rw c.odd_week-then-kind-eq8.ensures (search tests)
-
-pub returns : goal.returns
-unfolding parity_fits
-returns c = search tests
+returns-in_default c = grind (tests, arith)

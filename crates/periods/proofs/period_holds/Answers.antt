@@ -3,14 +3,14 @@ use Rattle.laws.specs.Tests.{tests}
 use Rattle.periods.specs.Periods.{period_holds}
 use Rattle.periods.proofs.period_holds.Goals as goal
 
-pub returns-then-number-from : goal.returns-then-number-from
+pub returns-then-from-number : goal.returns-then-from-number
 unfolding period_holds
-returns-then-number-from c = rw c.if-given.true (search tests)
+returns-then-from-number c = rw c.if-given.true (search tests)
 
-pub returns-then-given : goal.returns-then-given
+pub returns-else-from-number : goal.returns-else-from-number
 unfolding period_holds
-returns-then-given c = rw c.if-given.true (search tests)
+returns-else-from-number c = rw c.if-given.true (search tests)
 
-pub returns : goal.returns
+pub returns-else-given : goal.returns-else-given
 unfolding period_holds
-returns c = rw c.if-given.false
+returns-else-given c = rw c.if-given.false

@@ -1,6 +1,5 @@
 -- `preceding::number_by_search` meets its contract. The loop's invariant: the greater of `most` and the number of the records from `at` on is
 -- that of all.
-use Prim.Native.Nat.{◌-◌}
 use native.Mathlib.Omega.{arith}
 use Rattle.keys.proofs.KeyFileLaws.{key_here}
 use Rattle.previous.proofs.PreviousLaws.{pass_start, pass_next, pass_end}

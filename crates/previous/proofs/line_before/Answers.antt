@@ -1,4 +1,5 @@
--- `previous::line_before` meets its contract. The loop's invariant: the line that `i` stands in ends before `at`.
+-- `previous::line_before` meets its contract. The loop's invariant: the line of the byte before `i` ends before `at`.
+use Prim.Native.Nat.{◌-◌}
 use native.Mathlib.Omega.{arith}
 use Rattle.previous.proofs.LineBackLaws.{back_first, back_turn}
 use Rattle.previous.proofs.line_before.Goals as goal
@@ -8,19 +9,8 @@ loop-i-init c =
     let a = c.args in
     (omega arith, back_first a.s.now a.at c.requires.0 c.requires.1 c.requires.2)
 
-pub returns-then-s-i-eq10 : goal.returns-then-s-i-eq10
-returns-then-s-i-eq10 c =
-    let l = c.loop-i in
-    let e = c.if-s-i-eq10.true in
-    record { near = l.invariant.0; opens = λ h. e; line = l.invariant.1 }
-
 pub loop-i-preserved : goal.loop-i-preserved
 loop-i-preserved c =
     let l = c.loop-i in
     let a = c.args in
-    (omega arith, back_turn a.s.now a.at l.i (omega arith) (omega arith) c.if-s-i-eq10.false l.invariant.1)
-
-pub returns : goal.returns
-returns c =
-    let l = c.loop-i in
-    record { near = l.invariant.0; opens = λ h. absurd (omega arith); line = l.invariant.1 }
+    (omega arith, back_turn a.s.now a.at (l.i - 1) (omega arith) (omega arith) c.if-s-i-eq10.false l.invariant.1)

@@ -1,28 +1,21 @@
 -- `quotes::text_end` meets its contract. The loop's invariant: the text from `at` on stops where the text from `i` on stops, and no
 -- plain byte stands at `i`.
 use mathlib.Core.Path.{sym, ◌∙◌}
-use Prim.Native.Nat.{◌-◌}
 use native.Mathlib.Omega.{arith}
 use Rattle.file.proofs.TextLaws.{from_skip, from_end, from_unfit, from_ends, from_quote}
 use Rattle.quotes.proofs.text_end.Goals as goal
+use Rattle.quotes.proofs.text_end.Goals.{then-s-i-ne34-via-then-s-i-ne34, then-s-i-ne34-via-else-s-i-ne34+then-ends_at}
 
 pub loop-i-init : goal.loop-i-init
 loop-i-init c = from_skip _ _ _ c.plain_end-i.ensures
 
 pub returns-then-s-i-ne34 : goal.returns-then-s-i-ne34
 returns-then-s-i-ne34 c =
-    let a = c.args in
-    let i = c.loop-i.i in
-    let e = from_unfit a.s.now a.at i c.loop-i.invariant (omega arith) c.if-s-i-ne34.true in
-    record { place = e; near = c.loop-i.invariant.near }
-
-pub returns-then-ends_at : goal.returns-then-ends_at
-returns-then-ends_at c =
-    let a = c.args in
-    let i = c.loop-i.i in
-    let h = sym c.ends_at.ensures ∙ c.if-ends_at.true in
-    let e = from_ends a.s.now a.at i c.loop-i.invariant (omega arith) h in
-    record { place = e; near = c.loop-i.invariant.near }
+    elim c.then-s-i-ne34.branch [
+      | then-s-i-ne34-via-then-s-i-ne34 w ↦ record { place = from_unfit c.args.s.now c.args.at c.loop-i.i c.loop-i.invariant (omega arith) w.if-s-i-ne34.true; near = c.loop-i.invariant.near }
+      | then-s-i-ne34-via-else-s-i-ne34+then-ends_at w ↦
+          record { place = from_ends c.args.s.now c.args.at c.loop-i.i c.loop-i.invariant (omega arith) (sym w.ends_at.ensures ∙ w.if-ends_at.true); near = c.loop-i.invariant.near }
+    ]
 
 pub loop-i-smaller : goal.loop-i-smaller
 loop-i-smaller c = omega (arith, c.plain_end-i-in-loop-i.ensures.place, c.plain_end-i-in-loop-i.ensures.near)

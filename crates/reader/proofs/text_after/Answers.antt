@@ -6,7 +6,7 @@ use native.Mathlib.Omega.{arith}
 use lib.ListN.{length, take, drop, length-drop}
 use lib.Seq.{take_all}
 use Rattle.file.specs.Bytes.{goes}
-use Rattle.file.specs.Reader.{text_after, Inside}
+use Rattle.file.specs.Reader.{text_after}
 use Rattle.reader.proofs.text_after.Goals as goal
 
 -- the part from a place on is the rest of the file
@@ -14,7 +14,7 @@ rest : (s : List ℕ) (at : ℕ) → take (length s - at) (drop at s) ≡ drop a
 rest s at = take_all (length s - at) (drop at s) (simp length-drop (omega arith))
 
 pub returns : goal.returns
-unfolding text_after Inside
+unfolding text_after
 returns c =
     let o = c.opening_of-start in
     let e = c.text_end-size.ensures in

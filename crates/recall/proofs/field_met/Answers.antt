@@ -5,7 +5,8 @@ use native.Mathlib.Omega.{arith}
 use lib.ListN.{length}
 use Rattle.file.specs.Format.{Fields}
 use Rattle.laws.specs.Tests.{never}
-use Rattle.thirteen.specs.Batch.{Batch, thirteen}
+use Rattle.thirteen.specs.Batch.{Batch}
+use Rattle.thirteen.specs.Lent.{batch_of}
 use Rattle.rules.specs.Texts.{texts}
 use Rattle.link.specs.Stage.{amiss}
 use Rattle.recall.proofs.RecallLaws.{none_asked, recalled, remembered}
@@ -13,19 +14,17 @@ use Rattle.recall.proofs.field_met.Goals as goal
 
 pub returns-then-t-eq0 : goal.returns-then-t-eq0
 returns-then-t-eq0 c =
-    let files : Batch =
-    let a = c.args in thirteen a.f1.now a.f2.now a.f3.now a.f4.now a.f5.now a.f6.now a.f7.now a.f8.now a.f9.now a.f10.now a.f11.now a.f12.now a.f13.now in
+    let files : Batch = batch_of c.args.files.now in
     let cutTexts : Fields =
-    let a = c.args in texts a.file a.s.now a.places.now in
+    let a = c.args in texts a.file a.row.bytes.now a.row.places.now in
     let a = c.args in
     ((λ e. none_asked files a.file a.f cutTexts _ c.tag_at-t.ensures c.if-t-eq0.true), c.requires.0.known.looks.lasts, c.requires.1)
 
 pub returns-then-table-slot : goal.returns-then-table-slot
 returns-then-table-slot c =
-    let files : Batch =
-    let a = c.args in thirteen a.f1.now a.f2.now a.f3.now a.f4.now a.f5.now a.f6.now a.f7.now a.f8.now a.f9.now a.f10.now a.f11.now a.f12.now a.f13.now in
+    let files : Batch = batch_of c.args.files.now in
     let cutTexts : Fields =
-    let a = c.args in texts a.file a.s.now a.places.now in
+    let a = c.args in texts a.file a.row.bytes.now a.row.places.now in
     let a = c.args in
     ((λ e. recalled files a.file a.f cutTexts _ c.tag_at-t.ensures _ c.requires.1 _ c.if-table-slot.true), c.requires.0.known.looks.lasts, c.requires.1)
 
@@ -39,10 +38,9 @@ bounds-table-slot-2 c =
 
 pub returns : goal.returns
 returns c =
-    let files : Batch =
-    let a = c.args in thirteen a.f1.now a.f2.now a.f3.now a.f4.now a.f5.now a.f6.now a.f7.now a.f8.now a.f9.now a.f10.now a.f11.now a.f12.now a.f13.now in
+    let files : Batch = batch_of c.args.files.now in
     let cutTexts : Fields =
-    let a = c.args in texts a.file a.s.now a.places.now in
+    let a = c.args in texts a.file a.row.bytes.now a.row.places.now in
     let a = c.args in
     let e : amiss files a.file cutTexts a.f ≡ 0 = sym c.amiss_at.ensures.0 ∙ c.if-amiss_at-ne0.false in
     let l : c.tag_at-t.result % 4093 < length a.table.now = omega (arith, c.requires.1.size) in

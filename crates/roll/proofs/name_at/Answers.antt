@@ -14,7 +14,7 @@ pub cut-requires : goal.cut-requires
 unfolding fields_of field_counts
 cut-requires c =
     let a = c.args in
-    (left_here 6 a.f6.now a.order.now a.ways.now c.requires.0 a.at c.requires.1 c.requires.2, c.requires.3)
+    left_here 6 a.f6.now a.paths.order.now a.paths.ways.now c.requires.0 a.at c.requires.1 c.requires.2
 
 -- of the record at a place, where another says what it is
 name_of : (r q : Fields) (name : Name) → r ≡ q → Names q name → Names r name
@@ -27,7 +27,7 @@ pub value_of-requires : goal.value_of-requires
 unfolding fields_of field_counts
 value_of-requires c =
     let a = c.args in
-    let n = named_line _ _ (left_kinded 6 a.f6.now a.order.now a.ways.now c.requires.0 a.at c.requires.1 c.requires.2 c.cut.ensures) _ c.part.ensures in
+    let n = named_line _ _ (left_kinded 6 a.f6.now a.paths.order.now a.paths.ways.now c.requires.0 a.at c.requires.1 c.requires.2 c.cut.ensures) _ c.part.ensures in
     (n.digits, n.most)
 
 pub part-requires-2 : goal.part-requires-2
@@ -37,14 +37,14 @@ pub value_of-requires-2 : goal.value_of-requires-2
 unfolding fields_of field_counts
 value_of-requires-2 c =
     let a = c.args in
-    let n = named_trip _ _ (left_kinded 6 a.f6.now a.order.now a.ways.now c.requires.0 a.at c.requires.1 c.requires.2 c.cut.ensures) _ c.part-2.ensures in
+    let n = named_trip _ _ (left_kinded 6 a.f6.now a.paths.order.now a.paths.ways.now c.requires.0 a.at c.requires.1 c.requires.2 c.cut.ensures) _ c.part-2.ensures in
     (n.digits, n.most)
 
 pub returns : goal.returns
 unfolding fields_of field_counts
 returns c =
     let a = c.args in
-    let k = left_kinded 6 a.f6.now a.order.now a.ways.now c.requires.0 a.at c.requires.1 c.requires.2 c.cut.ensures in
+    let k = left_kinded 6 a.f6.now a.paths.order.now a.paths.ways.now c.requires.0 a.at c.requires.1 c.requires.2 c.cut.ensures in
     let l = named_line _ _ k _ c.part.ensures in
     let t = named_trip _ _ k _ c.part-2.ensures in
     name_of _ _ _ (cut_first 12 a.f6.now a.at _ _ _ c.cut.ensures)

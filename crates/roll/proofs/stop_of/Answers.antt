@@ -9,4 +9,4 @@ unfolding key_fields key_table
 with_three-requires c =
     let a = c.args in
     let p = c.requires in
-    (way_asks 8 a.f8.now a.order.now a.ways.now a.last 3 p.1.way p.2 refl _ refl _ c.index_of.ensures, p.3, p.4, p.0)
+    (way_asks 8 a.f8.now a.paths.order.now a.paths.ways.now a.last 3 p.1.way p.2 refl _ refl _ c.index_of.ensures, p.3, p.4, p.0)

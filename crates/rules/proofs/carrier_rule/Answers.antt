@@ -1,60 +1,44 @@
 -- `rules::carrier_rule` meets its contract: the dates, and what is given of code, type and from-date in turn.
-use mathlib.Core.Bool.{not}
-use mathlib.Core.Path.{ap}
-use mathlib.Core.Path.{refl}
+use mathlib.Core.Path.{◌≡◌, sym, ap, ◌∙◌}
+use mathlib.Core.Bool.{not, true, false}
 use native.Mathlib.Omega.{arith}
-use Rattle.laws.specs.Tests.{tests}
 use Rattle.file.specs.Files.{fields_of, field_counts}
-use Rattle.field.specs.Kinds.{kind_of, kinds, altdop}
+use Rattle.rules.proofs.KindLaws.{text_at}
 use Rattle.field.specs.Rules.{carrier_rule}
-use Rattle.rules.proofs.KindLaws.{text_at, maybe_date}
-use Rattle.dated.proofs.RuleLaws.{fails, holds}
+use Rattle.field.specs.Values.{given}
+use Rattle.rules.proofs.carrier_rule.Goals.{then-has_code, else-has_code}
 use Rattle.rules.proofs.carrier_rule.Goals as goal
 
-pub part-from-requires : goal.part-from-requires
-unfolding fields_of field_counts
-part-from-requires c = c.requires.parted 11 (omega arith)
-
-pub part-requires : goal.part-requires
-unfolding fields_of field_counts
-part-requires c = c.requires.parted 12 (omega arith)
-
-pub closes_in_order-requires : goal.closes_in_order-requires
-unfolding fields_of field_counts kind_of kinds altdop
-closes_in_order-requires c =
-    let k = c.requires in
-    (maybe_date k 11 (omega arith) c.part-from.ensures refl, maybe_date k 12 (omega arith) c.part.ensures refl)
-
-pub returns-then-not-closes_in_order : goal.returns-then-not-closes_in_order
+pub returns-then-not-is_empty : goal.returns-then-not-is_empty
 unfolding carrier_rule fields_of field_counts
-returns-then-not-closes_in_order c =
+returns-then-not-is_empty c =
     let k = c.requires in
     rw
-    (text_at k 11 (omega arith) c.part-from.ensures, text_at k 12 (omega arith) c.part.ensures, fails c.closes_in_order.ensures (ap not c.if-not-closes_in_order.true))
+    (text_at k 11 (omega arith) c.part-from.ensures, text_at k 12 (omega arith) c.part.ensures, sym c.closes_in_order.ensures ∙ c.if-closes_in_order.true, ← c.has_code.ensures)
+    (elim c.if-has_code.branch [
+      | then-has_code w ↦ rw (w.if-has_code.true) c.if-not-is_empty.true
+      | else-has_code w ↦
+          let g : given w.part-else-has_code.result.now ≡ true = ap not (sym w.is_empty.ensures) ∙ sym w.value-is ∙ c.if-not-is_empty.true in
+          rw (w.if-has_code.false, text_at k 9 (omega arith) w.part-else-has_code.ensures, g) c.if-not-is_empty.true
+    ])
 
-pub returns-then-has_code : goal.returns-then-has_code
+pub returns-else-not-is_empty : goal.returns-else-not-is_empty
 unfolding carrier_rule fields_of field_counts
-returns-then-has_code c =
+returns-else-not-is_empty c =
     let k = c.requires in
     rw
-    (text_at k 11 (omega arith) c.part-from.ensures, text_at k 12 (omega arith) c.part.ensures, holds c.closes_in_order.ensures (ap not c.if-not-closes_in_order.false), ← c.has_code.ensures, c.if-has_code.true)
+    (text_at k 11 (omega arith) c.part-from.ensures, text_at k 12 (omega arith) c.part.ensures, sym c.closes_in_order.ensures ∙ c.if-closes_in_order.true, ← c.has_code.ensures)
+    (elim c.if-has_code.branch [
+      | then-has_code w ↦ cc
+      | else-has_code w ↦
+          let g : given w.part-else-has_code.result.now ≡ false = ap not (sym w.is_empty.ensures) ∙ sym w.value-is ∙ c.if-not-is_empty.false in
+          rw (w.if-has_code.false, text_at k 9 (omega arith) w.part-else-has_code.ensures, g) (ap not c.is_empty-else-not-is_empty.ensures)
+    ])
 
-pub part-kind-requires : goal.part-kind-requires
-unfolding fields_of field_counts
-part-kind-requires c = c.requires.parted 9 (omega arith)
-
-pub returns-then-kind-ne0 : goal.returns-then-kind-ne0
+pub returns-else-closes_in_order : goal.returns-else-closes_in_order
 unfolding carrier_rule fields_of field_counts
-returns-then-kind-ne0 c =
+returns-else-closes_in_order c =
     let k = c.requires in
     rw
-    (text_at k 11 (omega arith) c.part-from.ensures, text_at k 12 (omega arith) c.part.ensures, holds c.closes_in_order.ensures (ap not c.if-not-closes_in_order.false), ← c.has_code.ensures, c.if-has_code.false, text_at k 9 (omega arith) c.part-kind.ensures)
-    (search tests)
-
-pub returns : goal.returns
-unfolding carrier_rule fields_of field_counts
-returns c =
-    let k = c.requires in
-    rw
-    (text_at k 11 (omega arith) c.part-from.ensures, text_at k 12 (omega arith) c.part.ensures, holds c.closes_in_order.ensures (ap not c.if-not-closes_in_order.false), ← c.has_code.ensures, c.if-has_code.false, text_at k 9 (omega arith) c.part-kind.ensures)
-    (search tests)
+    (text_at k 11 (omega arith) c.part-from.ensures, text_at k 12 (omega arith) c.part.ensures, sym c.closes_in_order.ensures ∙ c.if-closes_in_order.false)
+    c.if-closes_in_order.false

@@ -1,31 +1,26 @@
--- `rules::has_code` meets its contract. The loop's invariant: whether one of the codes that are left is given is whether one of all is.
-use mathlib.Core.Path.{refl, sym, ◌∙◌}
-use Prim.Native.Nat.{◌-◌}
+-- `rules::has_code` meets its contract: the codes are looked at one by one.
+use mathlib.Core.Path.{sym, ◌∙◌}
 use native.Mathlib.Omega.{arith}
+use lib.ListN.{length}
+use borrow.Author.Tests.{eqb-true, eqb-false}
 use Rattle.file.specs.Files.{fields_of, field_counts}
 use Rattle.rules.proofs.KindLaws.{text_at}
 use Rattle.rules.proofs.RuleLaws.{code_here, code_past, code_none}
 use Rattle.rules.proofs.has_code.Goals as goal
 
-pub part-code-requires : goal.part-code-requires
+pub returns-then-not-is_empty : goal.returns-then-not-is_empty
 unfolding fields_of field_counts
-part-code-requires c = c.requires.parted c.loop-i.i (omega arith)
-
-pub returns-then-code-ne0 : goal.returns-then-code-ne0
-unfolding fields_of field_counts
-returns-then-code-ne0 c =
-    let k = c.requires in
-    sym (code_here _ 9 c.loop-i.i c.loop-i-test.true c.part-code.result.now (text_at k c.loop-i.i (omega arith) c.part-code.ensures) c.if-code-ne0.true)
-    ∙ c.loop-i.invariant.1
+returns-then-not-is_empty c =
+    let t = c.part.result.now in
+    let some = eqb-false (length t) 0 (sym c.is_empty.ensures ∙ c.if-not-is_empty.true) in
+    sym (code_here _ 9 c.loop-i.i c.loop-i-test.true t (text_at c.requires c.loop-i.i (omega arith) c.part.ensures) some) ∙ c.loop-i.invariant
 
 pub loop-i-preserved : goal.loop-i-preserved
 unfolding fields_of field_counts
 loop-i-preserved c =
-    let k = c.requires in
-    (omega arith, sym (code_past _ 9 c.loop-i.i c.loop-i-test.true c.part-code.result.now (text_at k c.loop-i.i (omega arith) c.part-code.ensures) c.if-code-ne0.false) ∙ c.loop-i.invariant.1)
+    let t = c.part.result.now in
+    let none = eqb-true (length t) 0 (sym c.is_empty.ensures ∙ c.if-not-is_empty.false) in
+    sym (code_past _ 9 c.loop-i.i c.loop-i-test.true t (text_at c.requires c.loop-i.i (omega arith) c.part.ensures) none) ∙ c.loop-i.invariant
 
 pub returns : goal.returns
-returns c = sym (code_none _ 9 _ c.loop-i-test.false) ∙ c.loop-i.invariant.1
-
-pub loop-i-init : goal.loop-i-init
-loop-i-init c = (omega arith, refl)
+returns c = sym (code_none _ 9 _ (omega arith)) ∙ c.loop-i.invariant

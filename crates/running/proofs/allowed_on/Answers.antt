@@ -5,7 +5,7 @@ use Rattle.running.proofs.allowed_on.Goals as goal
 pub codes_allow-requires : goal.codes_allow-requires
 codes_allow-requires c =
     let p = c.requires in
-    (left_flags _ _ c.held_on.ensures.0, held_flags _ _ _ c.held_on.ensures.1, p.6)
+    (left_flags _ _ c.held_on.ensures.0, held_flags _ _ _ c.held_on.ensures.1, p.5)
 
 pub returns : goal.returns
 returns c =

@@ -1,13 +1,13 @@
 -- `sale::may_sell` meets its contract: a batch's own refusal comes first, and a batch that has none stands, so that its files can be asked.
 use mathlib.Core.Bool.{not}
-use mathlib.Core.Path.{ap}
-use mathlib.Core.Path.{◌≡◌}
+use mathlib.Core.Path.{◌≡◌, ap}
 use mathlib.Core.List.{[]}
 use Prim.Native.Nat.{◌≤◌}
 use native.Mathlib.Omega.{arith}
 use lib.ListN.{length}
 use Rattle.laws.specs.Numbered.{answered}
-use Rattle.thirteen.specs.Batch.{Batch, thirteen, file_in}
+use Rattle.thirteen.specs.Batch.{Batch, file_in}
+use Rattle.thirteen.specs.Lent.{batch_of}
 use Rattle.batch.specs.Order.{fault_of}
 use Rattle.batch.proofs.AcceptedLaws.{standing}
 use Rattle.batch.proofs.VerdictLaws.{no_fault}
@@ -20,16 +20,14 @@ use Rattle.sale.proofs.may_sell.Goals as goal
 pub returns-then-not-is_none : goal.returns-then-not-is_none
 unfolding numbered_sale
 returns-then-not-is_none c =
-    let files : Batch =
-    let a = c.args in thirteen a.f1.now a.f2.now a.f3.now a.f4.now a.f5.now a.f6.now a.f7.now a.f8.now a.f9.now a.f10.now a.f11.now a.f12.now a.f13.now in
+    let files : Batch = batch_of c.args.files.now in
     let a = c.args in
     sale_refused files _ c.check_with-fault.ensures.0 _ c.is_none.ensures a.line a.trip a.day a.month a.year a.from a.to a.holidays.now (ap not c.if-not-is_none.true)
 
 pub sale_on-requires : goal.sale_on-requires
 unfolding file_in
 sale_on-requires c =
-    let files : Batch =
-    let a = c.args in thirteen a.f1.now a.f2.now a.f3.now a.f4.now a.f5.now a.f6.now a.f7.now a.f8.now a.f9.now a.f10.now a.f11.now a.f12.now a.f13.now in
+    let files : Batch = batch_of c.args.files.now in
     let nothing : fault_of files ≡ answered [] =
     no_fault files _ c.check_with-fault.ensures.0 _ c.is_none.ensures (ap not c.if-not-is_none.false) in
     let order = c.args.order.now in
@@ -37,12 +35,11 @@ sale_on-requires c =
     let w = c.check_with-fault.ensures.1 nothing in
     let h : 33 ≤ length ways = omega (arith, c.check_with-fault.auto.ways) in
     let r = standing_ready files order ways (standing files nothing) w h in
-    (lines_met files nothing, r.codes, r.lines, r.trips, r.line_stops, r.trip_stops, r.time_codes, c.classes-class.ensures)
+    (lines_met files nothing, r.codes, r.lines, r.trips, r.line_stops, r.trip_stops, r.time_codes)
 
 pub returns : goal.returns
 unfolding file_in numbered_sale
 returns c =
-    let files : Batch =
-    let a = c.args in thirteen a.f1.now a.f2.now a.f3.now a.f4.now a.f5.now a.f6.now a.f7.now a.f8.now a.f9.now a.f10.now a.f11.now a.f12.now a.f13.now in
+    let files : Batch = batch_of c.args.files.now in
     let a = c.args in
     sale_told files _ c.check_with-fault.ensures.0 _ c.is_none.ensures a.line a.trip a.day a.month a.year a.from a.to a.holidays.now (ap not c.if-not-is_none.false) c.sale_on.ensures

@@ -5,5 +5,5 @@ use Rattle.scanner.proofs.halted.Goals as goal
 pub returns-then-at-s : goal.returns-then-at-s
 returns-then-at-s c = search tests
 
-pub returns : goal.returns
-returns c = search tests
+pub returns-else-at-s : goal.returns-else-at-s
+returns-else-at-s c = search tests

@@ -1,87 +1,42 @@
 -- `scanner::record_ahead` meets its contract. The loop's invariant: the record comes to `at`, where its next field is due.
-use mathlib.Core.Path.{◌≡◌, refl, sym, ap, ◌∙◌}
-use mathlib.Core.Bool.{true, false}
-use mathlib.Core.List.{List, []}
-use Prim.Native.Nat.{ℕ, suc, ◌+◌, ◌-◌, ◌≤◌, ◌<◌}
-use native.Mathlib.Nat.{add-zero}
+use Rattle.std.proofs.lemmas.Result.{err_from_is_err_and}
+use mathlib.Core.Path.{◌≡◌, sym, ◌∙◌}
+use Prim.Native.Nat.{ℕ, ◌+◌, ◌-◌, ◌≤◌}
 use native.Mathlib.Omega.{arith}
+use lib.Dec.{eqb}
 use borrow.Author.Tests.{eq-eqb, ne_eqb}
-use Rattle.file.specs.Bytes.{comma}
-use Rattle.file.specs.Fields.{ahead_at, ahead_from}
-use Rattle.file.specs.Reader.{AheadNear, RecordAhead}
+use Rattle.file.specs.Reader.{AheadNear}
 use Rattle.file.specs.Reading.{is_last}
-use Rattle.file.specs.declared.Ahead.{Ahead}
-use Rattle.file.specs.declared.Ahead.TheVariants.{Field, Stop}
-use Rattle.file.proofs.FieldLaws.{matched_more, matched_none, matched_done, from_stop, from_field}
-use Rattle.file.proofs.PassLaws.{at_closed, at_unopened, SoFar, so_far_first, so_far_next, so_far_last, so_far_stop}
+use Rattle.file.proofs.PassLaws.{so_far_first, so_far_next, so_far_last, so_far_stop}
 use Rattle.scanner.proofs.record_ahead.Goals as goal
 
--- with fewer than n fields at hand the one before is not the last; with n it is
-not_last : (n field : ℕ) → 1 ≤ field → field < n → is_last n (field - 1) ≡ false
-not_last n field h l = ne_eqb (field - 1 + 1) n (λ e. omega arith)
-
-is_last_lem : (n field : ℕ) → 1 ≤ field → n ≤ field → field ≤ n → is_last n (field - 1) ≡ true
-is_last_lem n field h l m = eq-eqb (field - 1 + 1) n (omega arith)
+-- field number `field` of n is the last exactly if the one before it is number n - 1
+last_is : (n field : ℕ) → 1 ≤ field → is_last n (field - 1) ≡ eqb field n
+last_is n field h = let e : field - 1 + 1 ≡ field = omega arith in rw e
 
 pub loop-field-init : goal.loop-field-init
-loop-field-init c =
-    let a = c.args in
-    (omega arith, c.requires.1, so_far_first a.n a.s.now a.start c.requires.0)
+loop-field-init c = so_far_first c.args.n c.args.s.now c.args.start c.requires.0
 
-pub returns-then-not-stands : goal.returns-then-not-stands
-returns-then-not-stands c =
+pub returns-in_ok-at : goal.returns-in_ok-at
+returns-in_ok-at c =
     let a = c.args in
     let l = c.loop-field in
-    let h = sym c.stands.ensures.0 ∙ c.if-not-stands.true in
-    so_far_stop a.n a.s.now a.start l.at (l.field - 1) l.invariant.2 false l.at (not_last a.n l.field l.invariant.0 c.loop-field-test.true) (at_unopened a.s.now l.at false h) l.invariant.2.near
+    let t = eq-eqb l.field a.n (omega arith) in
+    so_far_last a.n a.s.now a.start l.at (l.field - 1) l.invariant _ (last_is a.n l.field (omega arith) ∙ t) (rw t at (sym c.in_ok-at.ensures.0))
 
-pub returns-then-not-stands-2 : goal.returns-then-not-stands-2
-returns-then-not-stands-2 c =
-    let closed : ahead_at c.args.s.now c.loop-field.at false
-    ≡ ahead_from c.args.s.now false c.text_close-close.result =
-    let h = sym c.stands.ensures.0 ∙ c.if-not-stands.false in
-    at_closed c.args.s.now c.loop-field.at false c.text_close-close.result h c.text_close-close.ensures.place in
+pub returns-in_err-at : goal.returns-in_err-at
+unfolding AheadNear
+returns-in_err-at c =
     let a = c.args in
     let l = c.loop-field in
-    let h = sym c.stands-in-loop-field.ensures.0 ∙ c.if-not-stands-2.true in
-    let f = from_stop a.s.now false c.text_close-close.result 0 (matched_none comma [] _ h) (omega arith) in
-    let e = closed ∙ f ∙ ap Stop (add-zero c.text_close-close.result) in
-    so_far_stop a.n a.s.now a.start l.at (l.field - 1) l.invariant.2 false c.text_close-close.result (not_last a.n l.field l.invariant.0 c.loop-field-test.true) e c.text_close-close.ensures.near
+    let e = c.in_err-at.ensures in
+    let p = err_from_is_err_and c.from_residual.result c.from_residual.ensures.1 in
+    rw (p.1, p.2) (so_far_stop a.n a.s.now a.start l.at (l.field - 1) l.invariant (eqb l.field a.n) _ (last_is a.n l.field (omega arith)) (sym e.0) e.1)
 
 pub loop-field-preserved : goal.loop-field-preserved
 loop-field-preserved c =
-    let closed : ahead_at c.args.s.now c.loop-field.at false
-    ≡ ahead_from c.args.s.now false c.text_close-close.result =
-    let h = sym c.stands.ensures.0 ∙ c.if-not-stands.false in
-    at_closed c.args.s.now c.loop-field.at false c.text_close-close.result h c.text_close-close.ensures.place in
     let a = c.args in
     let l = c.loop-field in
-    let h = sym c.stands-in-loop-field.ensures.0 ∙ c.if-not-stands-2.false in
-    let m = matched_more comma [] a.s.now c.text_close-close.result (c.text_close-close.result + 1) refl h ∙ ap suc (matched_done _) in
-    let e = closed ∙ from_field a.s.now false c.text_close-close.result m in
+    let f = ne_eqb l.field a.n (λ z. omega arith) in
     let w : l.field - 1 + 1 ≡ l.field + 1 - 1 = omega arith in
-    (omega arith, omega arith, rw w at (so_far_next a.n a.s.now a.start l.at (l.field - 1) l.invariant.2 (c.text_close-close.result + 1) (not_last a.n l.field l.invariant.0 c.loop-field-test.true) e))
-
--- the last field: the record is whole, or breaks off
-ended : (n : ℕ) (s : List ℕ) (start at f : ℕ) → SoFar n s start at f → is_last n f ≡ true → (r : Ahead) → r ≡ ahead_at s at true → AheadNear s at r → RecordAhead n s start r
-unfolding AheadNear
-ended n s start at f h l (Field next) e near = so_far_last n s start at f h next l (sym e)
-ended n s start at f h l (Stop place) e near = so_far_stop n s start at f h true place l (sym e) near
-
-pub returns : goal.returns
-returns c =
-    let a = c.args in
-    let l = c.loop-field in
-    ended a.n a.s.now a.start l.at (l.field - 1) l.invariant.2 (is_last_lem a.n l.field l.invariant.0 c.loop-field-test.false l.invariant.1) c.last_field.result c.last_field.ensures.0 c.last_field.ensures.1
-
-pub overflow_add-at : goal.overflow_add-at
-overflow_add-at c = omega (arith, c.stands.ensures.1 (c.if-not-stands.false))
-
-pub text_close-close-requires : goal.text_close-close-requires
-text_close-close-requires c = (omega (arith, c.stands.ensures.1 (c.if-not-stands.false)), c.requires.2)
-
-pub overflow_add-at-in-loop-field : goal.overflow_add-at-in-loop-field
-overflow_add-at-in-loop-field c = omega (arith, c.stands-in-loop-field.ensures.1 (c.if-not-stands-2.false))
-
-pub last_field-requires : goal.last_field-requires
-last_field-requires c = (c.loop-field.invariant.2.near, c.requires.2)
+    rw w at (so_far_next a.n a.s.now a.start l.at (l.field - 1) l.invariant _ (last_is a.n l.field (omega arith) ∙ f) (rw f at (sym c.in_ok-at.ensures.0)))

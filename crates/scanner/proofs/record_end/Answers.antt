@@ -2,12 +2,12 @@
 use mathlib.Core.Path.{refl, sym, ap, ◌∙◌}
 use mathlib.Core.Bool.{true}
 use mathlib.Core.List.{[], ◌∷◌}
+use Rattle.std.specs.Prelude.{Err}
 use Prim.Native.Nat.{suc, ◌+◌}
 use native.Mathlib.Nat.{add-zero}
 use native.Mathlib.Omega.{arith}
 use Rattle.file.specs.Bytes.{semicolon, CR, LF}
 use Rattle.file.specs.Reader.{EndsNear}
-use Rattle.file.specs.declared.Ahead.TheVariants.{Stop}
 use Rattle.file.proofs.FieldLaws.{matched_more, matched_none, matched_done, from_stop, from_field}
 use Rattle.scanner.proofs.record_end.Goals as goal
 
@@ -16,7 +16,7 @@ unfolding EndsNear
 returns-then-not-stands c =
     let a = c.args in
     let h = sym c.stands.ensures.0 ∙ c.if-not-stands.true in
-    (ap Stop (sym (add-zero a.at)) ∙ sym (from_stop a.s.now true a.at 0 (matched_none semicolon (CR ∷ LF ∷ []) _ h) (omega arith)), λ n. n)
+    (ap Err (sym (add-zero a.at)) ∙ sym (from_stop a.s.now true a.at 0 (matched_none semicolon (CR ∷ LF ∷ []) _ h) (omega arith)), λ n. n)
 
 pub returns-then-not-stands-2 : goal.returns-then-not-stands-2
 unfolding EndsNear

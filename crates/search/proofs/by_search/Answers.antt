@@ -1,6 +1,5 @@
 -- `search::by_search` meets its contract. The loop's invariant: the first record with the key from the one at `at` on is the first of all.
 use mathlib.Core.Path.{refl, sym, ◌∙◌}
-use Prim.Native.Nat.{◌-◌}
 use native.Mathlib.Omega.{arith}
 use borrow.Author.Tests.{eqb-true, eqb-false}
 use Rattle.file.specs.Files.{fields_of}

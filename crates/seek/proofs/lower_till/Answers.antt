@@ -5,20 +5,21 @@ use native.Mathlib.Omega.{arith}
 use Rattle.keys.specs.Ranks.{rank_key}
 use Rattle.seek.proofs.SeekLaws.{between_up, between_down, between_met}
 use Rattle.seek.proofs.lower_till.Goals as goal
+use Rattle.seek.proofs.lower_till.Goals.{then-end-eq0-via-then-end-eq0, then-end-eq0-via-else-end-eq0+then-is_below}
 
 pub returns-then-end-eq0 : goal.returns-then-end-eq0
 returns-then-end-eq0 c =
     let a = c.args in
-    between_met a.file a.s.now a.order.now (rank_key a.x) 0 a.end c.requires.3 (omega arith)
-
-pub returns-then-is_below : goal.returns-then-is_below
-returns-then-is_below c =
-    let a = c.args in
     let s = a.s.now in
     let o = a.order.now in
-    let w = between_up a.file s o (rank_key a.x) 0 a.end (a.end - 1) c.requires.3 (omega arith) c.requires.1 c.is_below.ensures c.if-is_below.true in
-    let e : a.end - 1 + 1 ≡ a.end = omega arith in
-    between_met a.file s o (rank_key a.x) a.end a.end (rw e at w) (omega arith)
+    let x = rank_key a.x in
+    elim c.then-end-eq0.branch [
+      | then-end-eq0-via-then-end-eq0 w ↦ let e : a.end ≡ 0 = omega arith in between_met a.file s o x a.end a.end (rw (← e) at c.requires.3) (omega arith)
+      | then-end-eq0-via-else-end-eq0+then-is_below w ↦
+          let e : a.end - 1 + 1 ≡ a.end = omega arith in
+          let b = between_up a.file s o x 0 a.end (a.end - 1) c.requires.3 (omega arith) c.requires.1 w.is_below.ensures w.if-is_below.true in
+          between_met a.file s o x a.end a.end (rw e at b) (omega arith)
+    ]
 
 pub lower_within-requires : goal.lower_within-requires
 lower_within-requires c =

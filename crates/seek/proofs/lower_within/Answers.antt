@@ -1,5 +1,4 @@
 -- `seek::lower_within` meets its contract. The loop's invariant is what is required: the entry stands between `lo` and `hi`.
-use Prim.Native.Nat.{◌-◌}
 use native.Mathlib.Omega.{arith}
 use Rattle.keys.specs.Ranks.{rank_key}
 use Rattle.seek.proofs.SeekLaws.{between_met}

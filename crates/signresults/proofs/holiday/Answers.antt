@@ -1,16 +1,13 @@
 -- `signresults::holiday` hands on what `holiday` answers, case by case.
 use Rattle.calendar.specs.Answers.{numbered_whether}
 use Rattle.signresults.specs.Results.{holiday_result}
+use Rattle.signresults.proofs.Bits.{byte_bit}
 use Rattle.signresults.proofs.holiday.Goals as goal
 
-pub returns-in-Yes : goal.returns-in-Yes
+pub returns-in-Some : goal.returns-in-Some
 unfolding holiday_result numbered_whether
-returns-in-Yes c = rw (← c.holiday.ensures, c.in-Yes.is)
+returns-in-Some c = rw (← c.holiday.ensures, c.in-Some.is, c.from.ensures, byte_bit)
 
-pub returns-in-Not : goal.returns-in-Not
+pub returns-in-None : goal.returns-in-None
 unfolding holiday_result numbered_whether
-returns-in-Not c = rw (← c.holiday.ensures, c.in-Not.is)
-
-pub returns-in-NoDay : goal.returns-in-NoDay
-unfolding holiday_result numbered_whether
-returns-in-NoDay c = rw (← c.holiday.ensures, c.in-NoDay.is)
+returns-in-None c = rw (← c.holiday.ensures, c.in-None.is)

@@ -1,20 +1,21 @@
--- `is_day_sign` meets its contract: each branch answers one test of the definition.
+-- `is_day_sign` meets its contract: each case answers one test of the definition.
 use Rattle.laws.specs.Tests.{tests}
+use native.Mathlib.Omega.{arith}
 use Rattle.signs.specs.Signs.{is_day_sign}
 use Rattle.signs.proofs.is_day_sign.Goals as goal
 
-pub returns-then-sign-eq88 : goal.returns-then-sign-eq88
+pub returns-in_default : goal.returns-in_default
 unfolding is_day_sign
-returns-then-sign-eq88 c = search tests
+returns-in_default c = grind (tests, arith)
 
-pub returns-then-sign-eq43 : goal.returns-then-sign-eq43
+pub returns-in_default-2 : goal.returns-in_default-2
 unfolding is_day_sign
-returns-then-sign-eq43 c = search tests
+returns-in_default-2 c = grind (tests, arith)
 
-pub returns-then-sign-lt49 : goal.returns-then-sign-lt49
+pub returns-in-88 : goal.returns-in-88
 unfolding is_day_sign
-returns-then-sign-lt49 c = search tests
+returns-in-88 c = grind (tests, arith)
 
-pub returns : goal.returns
+pub returns-in-88-2 : goal.returns-in-88-2
 unfolding is_day_sign
-returns c = search tests
+returns-in-88-2 c = grind (tests, arith)

@@ -7,6 +7,6 @@ pub returns-then-weekday-eq7 : goal.returns-then-weekday-eq7
 unfolding is_restday
 returns-then-weekday-eq7 c = rw (← c.weekday.ensures) (search tests)
 
-pub returns : goal.returns
+pub returns-else-weekday-eq7 : goal.returns-else-weekday-eq7
 unfolding is_restday
-returns c = rw (← c.weekday.ensures, ← c.is_holiday.ensures) (search tests)
+returns-else-weekday-eq7 c = rw (← c.weekday.ensures, ← c.is_holiday.ensures) (search tests)

@@ -3,10 +3,10 @@ use Rattle.laws.specs.Tests.{tests}
 use Rattle.signs.specs.Signs.{is_workday}
 use Rattle.signs.proofs.is_workday.Goals as goal
 
-pub returns-then-weekday-gt5 : goal.returns-then-weekday-gt5
+pub returns-then-weekday-le5 : goal.returns-then-weekday-le5
 unfolding is_workday
-returns-then-weekday-gt5 c = rw (← c.weekday.ensures) (search tests)
+returns-then-weekday-le5 c = rw (← c.weekday.ensures, ← c.is_holiday.ensures) (search tests)
 
-pub returns : goal.returns
+pub returns-else-weekday-le5 : goal.returns-else-weekday-le5
 unfolding is_workday
-returns c = rw (← c.weekday.ensures, ← c.is_holiday.ensures) (search tests)
+returns-else-weekday-le5 c = rw (← c.weekday.ensures) (search tests)

@@ -1,4 +1,4 @@
--- `sign_fits` meets its contract: each branch answers one test of the definition.
+-- `sign_fits` meets its contract: each case answers one test of the definition.
 use native.Mathlib.Omega.{arith}
 use Rattle.laws.specs.Tests.{tests}
 use Rattle.weeks.specs.Weeks.{weekday}
@@ -9,14 +9,14 @@ pub overflow_add-result : goal.overflow_add-result
 unfolding weekday
 overflow_add-result c = omega (arith, c.weekday.ensures)
 
-pub returns-then-sign-eq88 : goal.returns-then-sign-eq88
+pub returns-in-88 : goal.returns-in-88
 unfolding sign_fits
-returns-then-sign-eq88 c = rw (← c.is_workday.ensures) (search tests)
+returns-in-88 c = rw (c.in-88.is, c.is_workday.ensures)
 
-pub returns-then-sign-eq43 : goal.returns-then-sign-eq43
+pub returns-in-43 : goal.returns-in-43
 unfolding sign_fits
-returns-then-sign-eq43 c = rw (← c.is_restday.ensures) (search tests)
+returns-in-43 c = rw (c.in-43.is, c.is_restday.ensures)
 
-pub returns : goal.returns
+pub returns-in_default : goal.returns-in_default
 unfolding sign_fits
-returns c = rw (← c.weekday.ensures, c.wide.ensures) (search tests)
+returns-in_default c = rw (← c.weekday.ensures, c.from.ensures) (search tests)

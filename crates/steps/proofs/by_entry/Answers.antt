@@ -14,7 +14,7 @@ entry_of-i-requires c =
     let a = c.args in
     let p = c.requires in
     let w = p.0 in
-    let q = way_asks a.file a.s.now a.order.now a.ways.now a.at 3 w.way w.place w.three _ refl _ c.index_of-part.ensures in
+    let q = way_asks a.file a.row.bytes.now a.paths.order.now a.paths.ways.now a.at 3 w.way w.place w.three _ refl _ c.index_of-part.ensures in
     (q.serves.keyed, q.serves.index, w.place, p.2.1.within)
 
 pub next_entry-requires : goal.next_entry-requires
@@ -24,10 +24,10 @@ next_entry-requires c =
     let w = p.0 in
     let part = c.index_of-part.result in
     let i = c.entry_of-i.result in
-    let q = way_asks a.file a.s.now a.order.now a.ways.now a.at 3 w.way w.place w.three _ refl _ c.index_of-part.ensures in
+    let q = way_asks a.file a.row.bytes.now a.paths.order.now a.paths.ways.now a.at 3 w.way w.place w.three _ refl _ c.index_of-part.ensures in
     let d = c.names.ensures c.if-names.true in
-    let u : apart (how_of a.ways.now a.file) ≡ true = rw p.3 in
-    let m : of_trip a.file a.line a.trip (record_at a.file a.s.now (get_or part.now i 0)) ≡ true = rw d.1 p.2.1.mine in
+    let u : apart (how_of a.paths.ways.now a.file) ≡ true = rw p.3 in
+    let m : of_trip a.file a.line a.trip (record_at a.file a.row.bytes.now (get_or part.now i 0)) ≡ true = rw d.1 p.2.1.mine in
     (q.serves.keyed, w.three, q.serves.index (omega (arith, d.0)), w.way.once u, d.0, m, p.4, p.5)
 
 pub returns-then-names : goal.returns-then-names

@@ -1,7 +1,7 @@
 -- `steps::step_on` meets its contract: each way goes on to the same place.
+use Rattle.std.specs.Prelude.{ℕ, Option}
 use mathlib.Core.Path.{ap, ◌∙◌}
 use borrow.Author.Tests.{eq-eqb}
-use Rattle.walk.specs.declared.Found.{Found}
 use Rattle.trail.specs.Trail.{place_of}
 use Rattle.steps.proofs.step_on.Goals as goal
 
@@ -11,9 +11,9 @@ beside-found-requires c =
     let w = p.0 in
     let t = p.2 in
     let q = w.way.serves in
-    (q.keyed, w.three, q.up (eq-eqb _ 1 c.if-ways-i-eq1.true), w.place, t.within, t.past, t.mine, p.3, p.4)
+    (q.keyed, w.three, q.up (eq-eqb _ 1 c.if-paths-i-eq1.true), w.place, t.within, t.past, t.mine, p.3, p.4)
 
-pub returns-then-ways-i-eq1 : goal.returns-then-ways-i-eq1
-returns-then-ways-i-eq1 c =
-    let s = c.args.s.now in
-    c.place_of.ensures ∙ ap (λ (f : Found). place_of s f) c.beside-found.ensures ∙ rw c.requires.2.here
+pub returns-then-paths-i-eq1 : goal.returns-then-paths-i-eq1
+returns-then-paths-i-eq1 c =
+    let s = c.args.row.bytes.now in
+    c.place_of.ensures ∙ ap (λ (f : Option ℕ). place_of s f) c.beside-found.ensures ∙ rw c.requires.2.here

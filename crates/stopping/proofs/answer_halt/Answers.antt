@@ -18,11 +18,11 @@ unfolding numbered_stop numbered_fault numbered
 returns-then-at-f8 c =
     let a = c.args in
     let p = c.requires in
-    nth_none (records_in (fields_of 3) a.f3.now) (records_in (fields_of 7) a.f7.now) a.f8.now a.order.now a.ways.now p.4 a.line a.trip p.0 p.1 a.n c.nth_stop-at.result c.if-n-eq0.false c.nth_stop-at.ensures c.if-at-f8.true
+    nth_none (records_in (fields_of 3) a.f3.now) (records_in (fields_of 7) a.f7.now) a.f8.now a.paths.order.now a.paths.ways.now p.4 a.line a.trip p.0 p.1 a.n c.nth_stop-at.result c.if-n-eq0.false c.nth_stop-at.ensures c.if-at-f8.true
 
 pub returns : goal.returns
 unfolding numbered_stop
 returns c =
     let a = c.args in
     let p = c.requires in
-    nth_there (records_in (fields_of 3) a.f3.now) (records_in (fields_of 7) a.f7.now) a.f8.now a.order.now a.ways.now p.4 a.line a.trip p.0 p.1 a.n c.nth_stop-at.result c.if-n-eq0.false c.nth_stop-at.ensures c.if-at-f8.false c.halt_at.ensures
+    nth_there (records_in (fields_of 3) a.f3.now) (records_in (fields_of 7) a.f7.now) a.f8.now a.paths.order.now a.paths.ways.now p.4 a.line a.trip p.0 p.1 a.n c.nth_stop-at.result c.if-n-eq0.false c.nth_stop-at.ensures c.if-at-f8.false c.halt_at.ensures

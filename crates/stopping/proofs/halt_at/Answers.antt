@@ -25,7 +25,7 @@ unfolding fields_of field_counts
 cut-requires c =
     let a = c.args in
     let p = c.requires in
-    (left_here 8 a.f8.now a.order.now a.ways.now p.6 a.at p.0 p.1, p.7)
+    left_here 8 a.f8.now a.paths.order.now a.paths.ways.now p.6 a.at p.0 p.1
 
 pub visit_of-v-requires : goal.visit_of-v-requires
 unfolding fields_of field_counts
@@ -33,7 +33,7 @@ visit_of-v-requires c =
     let kinded : Kinded 8 c.args.f8.now c.cut.new.places =
     let a = c.args in
     let p = c.requires in
-    left_kinded 8 a.f8.now a.order.now a.ways.now p.6 a.at p.0 p.1 c.cut.ensures in
+    left_kinded 8 a.f8.now a.paths.order.now a.paths.ways.now p.6 a.at p.0 p.1 c.cut.ensures in
     kinded
 
 pub part-requires : goal.part-requires
@@ -42,7 +42,7 @@ part-requires c =
     let kinded : Kinded 8 c.args.f8.now c.cut.new.places =
     let a = c.args in
     let p = c.requires in
-    left_kinded 8 a.f8.now a.order.now a.ways.now p.6 a.at p.0 p.1 c.cut.ensures in
+    left_kinded 8 a.f8.now a.paths.order.now a.paths.ways.now p.6 a.at p.0 p.1 c.cut.ensures in
     kinded.parted 2 (omega arith)
 
 pub value_of-requires : goal.value_of-requires
@@ -51,7 +51,7 @@ value_of-requires c =
     let kinded : Kinded 8 c.args.f8.now c.cut.new.places =
     let a = c.args in
     let p = c.requires in
-    left_kinded 8 a.f8.now a.order.now a.ways.now p.6 a.at p.0 p.1 c.cut.ensures in
+    left_kinded 8 a.f8.now a.paths.order.now a.paths.ways.now p.6 a.at p.0 p.1 c.cut.ensures in
     let n = third_text 8 c.args.f8.now c.cut.new.places (omega arith, omega arith) three_numbers kinded _ c.part.ensures in
     (n.digits, n.most)
 
@@ -61,7 +61,7 @@ part-requires-2 c =
     let kinded : Kinded 8 c.args.f8.now c.cut.new.places =
     let a = c.args in
     let p = c.requires in
-    left_kinded 8 a.f8.now a.order.now a.ways.now p.6 a.at p.0 p.1 c.cut.ensures in
+    left_kinded 8 a.f8.now a.paths.order.now a.paths.ways.now p.6 a.at p.0 p.1 c.cut.ensures in
     kinded.parted 3 (omega arith)
 
 pub value_of-requires-2 : goal.value_of-requires-2
@@ -70,7 +70,7 @@ value_of-requires-2 c =
     let kinded : Kinded 8 c.args.f8.now c.cut.new.places =
     let a = c.args in
     let p = c.requires in
-    left_kinded 8 a.f8.now a.order.now a.ways.now p.6 a.at p.0 p.1 c.cut.ensures in
+    left_kinded 8 a.f8.now a.paths.order.now a.paths.ways.now p.6 a.at p.0 p.1 c.cut.ensures in
     let n = number_part kinded 4 c.part-2.ensures stop_there in
     (n.digits, n.most)
 
@@ -80,14 +80,14 @@ sign_sum-requires c =
     let kinded : Kinded 8 c.args.f8.now c.cut.new.places =
     let a = c.args in
     let p = c.requires in
-    left_kinded 8 a.f8.now a.order.now a.ways.now p.6 a.at p.0 p.1 c.cut.ensures in
+    left_kinded 8 a.f8.now a.paths.order.now a.paths.ways.now p.6 a.at p.0 p.1 c.cut.ensures in
     let p = c.requires in
-    (kinded, p.5, p.4, p.7)
+    (kinded, p.5, p.4)
 
 pub count_stops-requires : goal.count_stops-requires
 count_stops-requires c =
     let p = c.requires in
-    (p.6, p.2, p.3, p.7)
+    (p.6, p.2, p.3)
 
 pub returns : goal.returns
 unfolding fields_of field_counts
@@ -95,7 +95,7 @@ returns c =
     let kinded : Kinded 8 c.args.f8.now c.cut.new.places =
     let a = c.args in
     let p = c.requires in
-    left_kinded 8 a.f8.now a.order.now a.ways.now p.6 a.at p.0 p.1 c.cut.ensures in
+    left_kinded 8 a.f8.now a.paths.order.now a.paths.ways.now p.6 a.at p.0 p.1 c.cut.ensures in
     let number : ℕ =
     length (travelled c.args.line c.args.trip (records_in (fields_of 8) c.args.f8.now)) in
     let later : Bool =

@@ -10,7 +10,7 @@ use Rattle.stopping.proofs.sign_sum.Goals as goal
 pub stop_has-requires-5 : goal.stop_has-requires-5
 stop_has-requires-5 c =
     let p = c.requires in
-    (λ z. omega arith, p.0, p.1, p.2, p.3)
+    (λ z. omega arith, p.0, p.1, p.2)
 
 pub overflow_add-result : goal.overflow_add-result
 overflow_add-result c =
@@ -31,7 +31,7 @@ overflow_add-result-4 c =
 pub returns : goal.returns
 returns c =
     let a = c.args in
-    sum_is (plain_signs (records_in (fields_of 3) a.f3.now) (records_in (fields_of 7) a.f7.now) (texts 8 a.f8.now a.places.now))
+    sum_is (plain_signs (records_in (fields_of 3) a.f3.now) (records_in (fields_of 7) a.f7.now) (texts 8 a.row.bytes.now a.row.places.now))
     c.stop_has.ensures
     c.stop_has-2.ensures
     c.stop_has-3.ensures

@@ -6,17 +6,17 @@ use Rattle.laws.specs.Tests.{never}
 use Rattle.sweep.proofs.SoundLaws.{sound_end, kinded, meeting, sound_step}
 use Rattle.sweep.proofs.is_sound.Goals as goal
 
-pub read_on-next-requires : goal.read_on-next-requires
-read_on-next-requires c =
-    (c.loop-at.invariant.0, c.requires, c.classes-class.ensures)
+pub read_on-requires : goal.read_on-requires
+read_on-requires c =
+    (c.loop-at.invariant.0, c.requires)
 
 pub meets_rules-requires : goal.meets_rules-requires
 meets_rules-requires c =
-    kinded c.args.file c.args.n c.args.s.now _ _ _ c.requires (c.read_on-next.ensures c.if-next-eq0.false)
+    kinded c.args.file c.args.n c.args.s.now _ _ _ c.requires (rw c.in-Some.is at c.read_on.ensures)
 
 pub loop-at-preserved : goal.loop-at-preserved
 loop-at-preserved c =
-    let r = c.read_on-next.ensures c.if-next-eq0.false in
+    let r = rw c.in-Some.is at c.read_on.ensures in
     let m = meeting c.args.file c.args.n c.args.s.now _ _ _ c.requires r _ c.meets_rules.ensures in
     (r.near, λ w. c.loop-at.invariant.1 (sound_step c.args.file c.args.n c.args.s.now _ _ _ c.requires r w (sym m ∙ c.if-not-meets_rules.false)))
 
@@ -27,11 +27,8 @@ returns c t =
 pub loop-at-init : goal.loop-at-init
 loop-at-init c = (omega arith, λ w. w)
 
-pub returns-then-next-eq0 : goal.returns-then-next-eq0
-returns-then-next-eq0 c t = never t
-
 pub returns-then-not-meets_rules : goal.returns-then-not-meets_rules
 returns-then-not-meets_rules c t = never t
 
 pub loop-at-smaller : goal.loop-at-smaller
-loop-at-smaller c = let r = c.read_on-next.ensures c.if-next-eq0.false in omega (arith, r.far, r.near)
+loop-at-smaller c = let r = rw c.in-Some.is at c.read_on.ensures in omega (arith, r.far, r.near)

@@ -3,6 +3,9 @@ use mathlib.Core.Path.{◌≡◌, refl}
 use mathlib.Core.List.{[]}
 use Prim.Native.Nat.{ℕ, zero, suc, ◌+◌, ◌≤◌, ◌<◌}
 use native.Mathlib.Omega.{arith}
+use lib.Dec.{ltb}
+use borrow.Author.Tests.{ltb-true, ltb-false}
+use Rattle.laws.specs.Tests.{either}
 use Rattle.link.specs.Links.{links, links_in, link_of, zastavky, linky, zasspoje, caskody, altdop}
 use Rattle.link.specs.declared.Link.{Link}
 use Rattle.link.proofs.MatchLaws.{free_below}
@@ -33,13 +36,19 @@ pub returns-in-8 : goal.returns-in-8
 unfolding links_in link_of links zasspoje
 returns-in-8 c = first_in 8 2 c.in-8.is (omega arith, omega arith, λ (i : ℕ) h. free_below zasspoje [] 2 tt i h tt)
 
-pub returns-in-10 : goal.returns-in-10
-unfolding links_in link_of links caskody
-returns-in-10 c = first_in 10 2 c.in-10.is (omega arith, omega arith, λ (i : ℕ) h. free_below caskody [] 2 tt i h tt)
+-- files 10 and 11
+two_more : (file : ℕ) → 10 ≤ file → file < 12 → First file 2
+unfolding links_in link_of links caskody altdop
+two_more file h l =
+    either (ltb file 11)
+    (λ t. first_in 10 2 (omega (arith, ltb-true file 11 t)) (omega arith, omega arith, λ (i : ℕ) h. free_below caskody [] 2 tt i h tt))
+    (λ t. first_in 11 2 (omega (arith, ltb-false file 11 t)) (omega arith, omega arith, λ (i : ℕ) h. free_below altdop [] 2 tt i h tt))
 
-pub returns-in-11 : goal.returns-in-11
-unfolding links_in link_of links altdop
-returns-in-11 c = first_in 11 2 c.in-11.is (omega arith, omega arith, λ (i : ℕ) h. free_below altdop [] 2 tt i h tt)
+pub returns-in-8-2 : goal.returns-in-8-2
+returns-in-8-2 c = two_more c.args.file (omega arith) (omega arith)
 
 pub returns-in_default : goal.returns-in_default
 returns-in_default c = (omega arith, omega arith, none_before _)
+
+pub returns-in_default-2 : goal.returns-in_default-2
+returns-in_default-2 c = (omega arith, omega arith, none_before _)

@@ -1,10 +1,8 @@
 -- `tags::link_tag` meets its contract: each link's fields are numbers, or a code.
-use mathlib.Core.Path.{◌≡◌, refl, sym, ◌∙◌}
+use mathlib.Core.Path.{refl, sym, ◌∙◌}
 use native.Mathlib.Omega.{arith}
 use Rattle.file.specs.Format.{Fields}
 use Rattle.rules.specs.Texts.{texts}
-use Rattle.link.specs.Links.{link_of}
-use Rattle.link.specs.declared.Link.{Link}
 use Rattle.link.proofs.KindOfLinks.{line_numeric, stop_numeric, carrier_numeric, trip_numeric, trip_or_zero_numeric, line_stop_numeric, code_kind_lem}
 use Rattle.tags.proofs.TagLaws.{free_tagged, line_tagged, stop_tagged, carrier_tagged, trip_tagged, line_stop_tagged}
 use Rattle.tags.proofs.link_tag.Goals as goal
@@ -52,14 +50,14 @@ code_tag-requires c =
 pub returns-in-Free : goal.returns-in-Free
 returns-in-Free c =
     let cutTexts : Fields =
-    let a = c.args in texts a.file a.s.now a.places.now in
+    let a = c.args in texts a.file a.row.bytes.now a.row.places.now in
     let a = c.args in
     free_tagged a.file a.f cutTexts 0 refl (sym c.in-Free.is ∙ c.link_of.ensures)
 
 pub returns-in-Line : goal.returns-in-Line
 returns-in-Line c =
     let cutTexts : Fields =
-    let a = c.args in texts a.file a.s.now a.places.now in
+    let a = c.args in texts a.file a.row.bytes.now a.row.places.now in
     let a = c.args in
     let x = c.number_tag.ensures in
     line_tagged a.file a.f cutTexts _ x.1 (sym c.in-Line.is ∙ c.link_of.ensures) x.0
@@ -67,7 +65,7 @@ returns-in-Line c =
 pub returns-in-Stop : goal.returns-in-Stop
 returns-in-Stop c =
     let cutTexts : Fields =
-    let a = c.args in texts a.file a.s.now a.places.now in
+    let a = c.args in texts a.file a.row.bytes.now a.row.places.now in
     let a = c.args in
     let x = c.number_tag-in-Stop.ensures in
     stop_tagged a.file a.f cutTexts _ x.1 (sym c.in-Stop.is ∙ c.link_of.ensures) x.0
@@ -75,7 +73,7 @@ returns-in-Stop c =
 pub returns-in-Carrier : goal.returns-in-Carrier
 returns-in-Carrier c =
     let cutTexts : Fields =
-    let a = c.args in texts a.file a.s.now a.places.now in
+    let a = c.args in texts a.file a.row.bytes.now a.row.places.now in
     let a = c.args in
     let x = c.number_tag-in-Carrier.ensures in
     carrier_tagged a.file a.f cutTexts _ x.1 (sym c.in-Carrier.is ∙ c.link_of.ensures) x.0
@@ -83,7 +81,7 @@ returns-in-Carrier c =
 pub returns-in-Trip : goal.returns-in-Trip
 returns-in-Trip c =
     let cutTexts : Fields =
-    let a = c.args in texts a.file a.s.now a.places.now in
+    let a = c.args in texts a.file a.row.bytes.now a.row.places.now in
     let a = c.args in
     let p = c.requires in
     let x = c.number_tag-in-Trip.ensures in
@@ -93,7 +91,7 @@ returns-in-Trip c =
 pub returns-in-LineStop : goal.returns-in-LineStop
 returns-in-LineStop c =
     let cutTexts : Fields =
-    let a = c.args in texts a.file a.s.now a.places.now in
+    let a = c.args in texts a.file a.row.bytes.now a.row.places.now in
     let a = c.args in
     let p = c.requires in
     let x = c.number_tag-in-LineStop.ensures in

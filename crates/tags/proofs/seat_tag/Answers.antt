@@ -13,14 +13,14 @@ use Rattle.tags.proofs.seat_tag.Goals as goal
 pub returns-then-x-eq0 : goal.returns-then-x-eq0
 returns-then-x-eq0 c =
     let cutTexts : Fields =
-    let a = c.args in texts a.file a.s.now a.places.now in
+    let a = c.args in texts a.file a.row.bytes.now a.row.places.now in
     let a = c.args in
     no_seat_tagged a.file a.f cutTexts 0 (sym c.requires.5) (sym c.number_of-x.ensures.0 ∙ c.if-x-eq0.true) refl
 
 pub returns : goal.returns
 returns c =
     let cutTexts : Fields =
-    let a = c.args in texts a.file a.s.now a.places.now in
+    let a = c.args in texts a.file a.row.bytes.now a.row.places.now in
     let a = c.args in
     let e = c.number_of-x.ensures.0 in
     let v : value (field a.f cutTexts) < none = rw (← e) c.number_of-x.ensures.1 in

@@ -17,7 +17,7 @@ pub loop-at-preserved : goal.loop-at-preserved
 loop-at-preserved c =
     let l = c.loop-at in
     let s = c.args.s.now in
-    omega (arith, c.wide-n.ensures, c.line_feeds.ensures, feeds_part s l.at (l.at + 240) (omega arith))
+    omega (arith, c.line_feeds.ensures, feeds_part s l.at (l.at + 240) (omega arith))
 
 -- what was counted is no more than the bytes, so it fits
 pub overflow_add-n : goal.overflow_add-n
@@ -33,7 +33,7 @@ pub overflow_add-result : goal.overflow_add-result
 overflow_add-result c =
     let l = c.loop-at in
     let s = c.args.s.now in
-    omega (arith, c.wide.ensures, c.line_feeds-2.ensures, feeds_part s l.at (length s) (omega arith), feeds_most s)
+    omega (arith, c.line_feeds-2.ensures, feeds_part s l.at (length s) (omega arith), feeds_most s)
 
 pub returns : goal.returns
 returns c =
@@ -41,7 +41,6 @@ returns c =
     let s = c.args.s.now in
     omega (
       arith,
-      c.wide.ensures,
       c.line_feeds-2.ensures,
       feeds_part s l.at (length s) (omega arith),
       feeds_end s (length s) (omega arith),

@@ -11,7 +11,7 @@ unfolding fields_of field_counts
 cut-requires c =
     let a = c.args in
     let p = c.requires in
-    (left_here 8 a.f8.now a.order.now a.ways.now p.4 a.at p.0 p.1, p.5)
+    left_here 8 a.f8.now a.paths.order.now a.paths.ways.now p.4 a.at p.0 p.1
 
 pub visit_of-v-requires : goal.visit_of-v-requires
 unfolding fields_of field_counts
@@ -19,7 +19,7 @@ visit_of-v-requires c =
     let kinded : Kinded 8 c.args.f8.now c.cut.new.places =
     let a = c.args in
     let p = c.requires in
-    left_kinded 8 a.f8.now a.order.now a.ways.now p.4 a.at p.0 p.1 c.cut.ensures in
+    left_kinded 8 a.f8.now a.paths.order.now a.paths.ways.now p.4 a.at p.0 p.1 c.cut.ensures in
     kinded
 
 pub stop_marks-m-requires : goal.stop_marks-m-requires
@@ -28,9 +28,9 @@ stop_marks-m-requires c =
     let kinded : Kinded 8 c.args.f8.now c.cut.new.places =
     let a = c.args in
     let p = c.requires in
-    left_kinded 8 a.f8.now a.order.now a.ways.now p.4 a.at p.0 p.1 c.cut.ensures in
+    left_kinded 8 a.f8.now a.paths.order.now a.paths.ways.now p.4 a.at p.0 p.1 c.cut.ensures in
     let p = c.requires in
-    (kinded, p.3, p.2, p.5)
+    (kinded, p.3, p.2)
 
 pub returns : goal.returns
 unfolding fields_of field_counts

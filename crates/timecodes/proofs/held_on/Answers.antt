@@ -18,7 +18,7 @@ loop-step-init c =
 pub cut-next-requires : goal.cut-next-requires
 cut-next-requires c =
     let p = c.requires in
-    (record_there _ _ _ p.0 _ _ p.1 p.2 _ c.loop-step.invariant.place c.loop-step-test.true, p.3)
+    record_there _ _ _ p.0 _ _ p.1 p.2 _ c.loop-step.invariant.place c.loop-step-test.true
 
 pub type_of-kind-requires : goal.type_of-kind-requires
 type_of-kind-requires c =
@@ -27,12 +27,12 @@ type_of-kind-requires c =
 
 pub bounds-seen-kind : goal.bounds-seen-kind
 bounds-seen-kind c =
-    omega (arith, c.type_of-kind.ensures.1, c.loop-step.invariant.sizes.0, c.requires.4)
+    omega (arith, c.type_of-kind.ensures.1, c.loop-step.invariant.sizes.0, c.requires.3)
 
 pub hold_on-requires : goal.hold_on-requires
 hold_on-requires c =
     let p = c.requires in
-    (cut_kinds _ _ _ p.0 _ _ p.1 p.2 _ c.loop-step.invariant.place c.loop-step-test.true c.cut-next.ensures, omega (arith, c.loop-step.invariant.sizes.1, p.5))
+    (cut_kinds _ _ _ p.0 _ _ p.1 p.2 _ c.loop-step.invariant.place c.loop-step-test.true c.cut-next.ensures, omega (arith, c.loop-step.invariant.sizes.1, p.4))
 
 pub step_on-step-requires : goal.step_on-step-requires
 step_on-step-requires c =

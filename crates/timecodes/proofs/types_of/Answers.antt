@@ -17,7 +17,7 @@ loop-step-init c =
 pub cut-next-requires : goal.cut-next-requires
 cut-next-requires c =
     let p = c.requires in
-    (record_there _ _ _ p.0 _ _ p.2 p.3 _ c.loop-step.invariant.place c.loop-step-test.true, p.4)
+    record_there _ _ _ p.0 _ _ p.2 p.3 _ c.loop-step.invariant.place c.loop-step-test.true
 
 pub type_of-kind-requires : goal.type_of-kind-requires
 type_of-kind-requires c =
@@ -58,7 +58,7 @@ pub offset_bounds-seen-kind : goal.offset_bounds-seen-kind
 offset_bounds-seen-kind c = omega (arith, c.type_of-kind.ensures.1)
 
 pub bounds-seen-kind : goal.bounds-seen-kind
-bounds-seen-kind c = omega (arith, c.type_of-kind.ensures.1, c.loop-step.invariant.size, c.requires.5)
+bounds-seen-kind c = omega (arith, c.type_of-kind.ensures.1, c.loop-step.invariant.size, c.requires.4)
 
 pub shape_of-seen : goal.shape_of-seen
 shape_of-seen c = c.loop-step.invariant.size

@@ -13,13 +13,13 @@ returns-then-not-valid_on c =
 pub cut-requires : goal.cut-requires
 unfolding fields_of field_counts
 cut-requires c =
-    (left_here 6 _ _ _ c.requires.7 _ c.requires.0 c.requires.1, c.requires.9)
+    left_here 6 _ _ _ c.requires.7 _ c.requires.0 c.requires.1
 
 pub allowed_on-requires : goal.allowed_on-requires
 unfolding fields_of field_counts
 allowed_on-requires c =
     let p = c.requires in
-    (left_kinded 6 _ _ _ p.7 _ p.0 p.1 c.cut.ensures, p.2, p.3, p.4, p.8, p.9, p.10)
+    (left_kinded 6 _ _ _ p.7 _ p.0 p.1 c.cut.ensures, p.2, p.3, p.4, p.8, p.9)
 
 pub returns : goal.returns
 unfolding plain_runs fields_of field_counts

@@ -18,16 +18,16 @@ by_one-requires c =
 pub valid_at-requires : goal.valid_at-requires
 valid_at-requires c =
     let k = c.requires.1 in
-    let h = found_line c.args.f5.now c.args.line _ k.key c.requires.0 (sym c.by_one.ensures ∙ c.in-At.is) in
-    (k, h.0, h.1, c.requires.3)
+    let h = found_line c.args.f5.now c.args.line _ k.key c.requires.0 (sym c.by_one.ensures ∙ c.in-Some.is) in
+    (k, h.0, h.1)
 
-pub returns-in-At : goal.returns-in-At
-returns-in-At c =
+pub returns-in-Some : goal.returns-in-Some
+returns-in-Some c =
     let a = c.args in
-    let e = line_found a.f5.now a.line _ c.requires.1.key.legal (sym c.by_one.ensures ∙ c.in-At.is) in
+    let e = line_found a.f5.now a.line _ c.requires.1.key.legal (sym c.by_one.ensures ∙ c.in-Some.is) in
     c.valid_at.ensures ∙ ap (λ (r : Fields). is_valid r a.d) (sym e)
 
-pub returns-in-Nothing : goal.returns-in-Nothing
-returns-in-Nothing c =
+pub returns-in-None : goal.returns-in-None
+returns-in-None c =
     let a = c.args in
-    found_some 5 (a.line ∷ []) 0 (records_in (fields_of 5) a.f5.now) c.requires.2 (sym c.by_one.ensures ∙ c.in-Nothing.is)
+    found_some 5 (a.line ∷ []) 0 (records_in (fields_of 5) a.f5.now) c.requires.2 (sym c.by_one.ensures ∙ c.in-None.is)

@@ -20,14 +20,14 @@ pub cut-next-requires : goal.cut-next-requires
 unfolding fields_of field_counts
 cut-next-requires c =
     let a = c.args in
-    (left_here 6 a.f6.now a.order.now a.ways.now c.requires.1 _ c.loop-at.invariant.0.place c.loop-at-test.true, c.requires.4)
+    left_here 6 a.f6.now a.paths.order.now a.paths.ways.now c.requires.1 _ c.loop-at.invariant.0.place c.loop-at-test.true
 
 pub trip_fault-tried-requires : goal.trip_fault-tried-requires
 unfolding fields_of field_counts
 trip_fault-tried-requires c =
     let a = c.args in
     let p = c.requires in
-    (left_kinded 6 a.f6.now a.order.now a.ways.now p.1 _ c.loop-at.invariant.0.place c.loop-at-test.true c.cut-next.ensures, p.0, p.2, p.3, c.loop-at.invariant.1, c.loop-at.invariant.2, p.4)
+    (left_kinded 6 a.f6.now a.paths.order.now a.paths.ways.now p.1 _ c.loop-at.invariant.0.place c.loop-at-test.true c.cut-next.ensures, p.0, p.2, p.3, c.loop-at.invariant.1, c.loop-at.invariant.2)
 
 pub returns-then-tried-eq10 : goal.returns-then-tried-eq10
 unfolding numbered_timed fields_of field_counts

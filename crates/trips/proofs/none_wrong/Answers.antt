@@ -1,6 +1,7 @@
 -- `trips::none_wrong` meets its contract. The loop's invariant: nothing is wrong with the trips that the entries below i name.
-use Prim.Native.Nat.{◌-◌}
+use mathlib.Core.Path.{sym}
 use native.Mathlib.Omega.{arith}
+use borrow.Author.Tests.{eqb-false}
 use Rattle.laws.specs.Tests.{never}
 use Rattle.file.specs.Files.{fields_of, field_counts}
 use Rattle.lines.proofs.LineLaws.{place_start}
@@ -27,26 +28,22 @@ pub loop-i-init : goal.loop-i-init
 loop-i-init c =
     let a = c.args in
     let p = c.requires in
-    (indexed a.f6.now a.order.now a.ways.now _ p.1 c.index_of-part.ensures c.if-part-eq0.false, (λ j h. absurd (omega arith)), rw c.none_tried-tried.ensures.0 (place_start (fields_of 10) a.f10.now p.3.key.legal), rw c.none_tried-tried.ensures.1 (place_start (fields_of 8) a.f8.now p.2.key.legal))
+    (indexed a.f6.now a.paths.order.now a.paths.ways.now _ p.1 c.index_of-part.ensures (eqb-false _ _ (sym c.if-is_empty.ensures)), (λ j h. absurd (omega arith)), rw c.none_tried-tried.ensures.0 (place_start (fields_of 10) a.f10.now p.3.key.legal), rw c.none_tried-tried.ensures.1 (place_start (fields_of 8) a.f8.now p.2.key.legal))
 
 pub cut-requires : goal.cut-requires
 unfolding fields_of field_counts
 cut-requires c =
     let a = c.args in
-    let w = c.loop-i.invariant.0.start c.loop-i.i c.loop-i-test.true in
-    (left_here 6 a.f6.now a.order.now a.ways.now c.requires.1 _ w.place w.within, c.requires.4)
+    let w = c.loop-i.invariant.0.start c.loop-i.i (omega arith) in
+    left_here 6 a.f6.now a.paths.order.now a.paths.ways.now c.requires.1 _ w.place w.within
 
 pub trip_fault-tried-requires : goal.trip_fault-tried-requires
 unfolding fields_of field_counts
 trip_fault-tried-requires c =
     let a = c.args in
     let p = c.requires in
-    let w = c.loop-i.invariant.0.start c.loop-i.i c.loop-i-test.true in
-    (left_kinded 6 a.f6.now a.order.now a.ways.now p.1 _ w.place w.within c.cut.ensures, p.0, p.2, p.3, c.loop-i.invariant.2, c.loop-i.invariant.3, p.4)
-
-pub overflow_add-i : goal.overflow_add-i
-overflow_add-i c =
-    omega (arith, c.loop-i-test.true, c.index_of-part.type_inv)
+    let w = c.loop-i.invariant.0.start c.loop-i.i (omega arith) in
+    (left_kinded 6 a.f6.now a.paths.order.now a.paths.ways.now p.1 _ w.place w.within c.cut.ensures, p.0, p.2, p.3, c.loop-i.invariant.2, c.loop-i.invariant.3)
 
 pub loop-i-preserved : goal.loop-i-preserved
 unfolding fields_of field_counts
@@ -57,16 +54,13 @@ loop-i-preserved c =
 
 pub returns : goal.returns
 returns c =
-    (λ e. fit_all _ _ _ _ _ _ c.loop-i.invariant.0 c.requires.1.key.legal c.loop-i.invariant.1 c.loop-i-test.false)
+    (λ e. fit_all _ _ _ _ _ _ c.loop-i.invariant.0 c.requires.1.key.legal c.loop-i.invariant.1 (omega arith))
 
-pub returns-then-part-eq0 : goal.returns-then-part-eq0
-returns-then-part-eq0 c = (λ e. never e)
+pub returns-then-is_empty : goal.returns-then-is_empty
+returns-then-is_empty c = (λ e. never e)
 
 pub returns-then-not-goes_on : goal.returns-then-not-goes_on
 returns-then-not-goes_on c = (λ e. never e)
-
-pub overflow_cast-part : goal.overflow_cast-part
-overflow_cast-part c = omega (arith, c.type_inv.part c.loop-i.i)
 
 pub returns-then-tried-ne0 : goal.returns-then-tried-ne0
 returns-then-tried-ne0 c = (λ e. never e)

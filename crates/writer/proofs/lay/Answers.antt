@@ -23,11 +23,11 @@ pub returns-then-last : goal.returns-then-last
 returns-then-last c =
     field_laid c.args.d.now _ _ _ c.args.t.now c.args.last true c.if-last.true c.requires c.copy.ensures c.copy-2.ensures c.copy-then-last.ensures
 
-pub copy-requires-3 : goal.copy-requires-3
-copy-requires-3 c =
+pub copy-requires-else-last : goal.copy-requires-else-last
+copy-requires-else-last c =
     let a = c.args in
     omega (arith, rw c.if-last.false at (field_size a.last a.t.now), rw c.if-last.false at c.requires)
 
-pub returns : goal.returns
-returns c =
-    field_laid c.args.d.now _ _ _ c.args.t.now c.args.last false c.if-last.false c.requires c.copy.ensures c.copy-2.ensures c.copy-3.ensures
+pub returns-else-last : goal.returns-else-last
+returns-else-last c =
+    field_laid c.args.d.now _ _ _ c.args.t.now c.args.last false c.if-last.false c.requires c.copy.ensures c.copy-2.ensures c.copy-else-last.ensures

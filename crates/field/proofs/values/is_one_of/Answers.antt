@@ -1,20 +1,32 @@
--- `field::values::is_one_of` meets its contract. The loop's invariant: whether the byte is among what is left of the set is whether it
--- is among the whole.
-use mathlib.Core.Path.{sym, ◌∙◌}
-use Prim.Native.Nat.{◌-◌}
-use native.Mathlib.Omega.{arith}
-use Rattle.field.proofs.ValueLaws.{among_hit, among_miss, among_none}
+-- `field::values::is_one_of` meets its contract: a text of one byte is tried as that byte, and no other text is one of the set's.
+use Rattle.std.proofs.Common.{◌≡◌, ◌∙◌, List, [], ◌∷◌, ℕ, refl, get_or, length, arith, ne_eqb}
+use Rattle.std.specs.Prelude.{eqb, ◌||◌, false, true, Bool}
+use Rattle.std.specs.List.{list_any}
+use Rattle.std.proofs.lemmas.Bool.Decides.{nat_tests}
+use Rattle.laws.specs.Tests.{one_of}
+use Rattle.field.specs.Values.{among}
+use Rattle.field.proofs.ValueLaws.{byte_one, byte_other}
 use Rattle.field.proofs.values.is_one_of.Goals as goal
 
-pub returns-then-is_byte : goal.returns-then-is_byte
-returns-then-is_byte c =
-    let a = c.args in
-    sym (among_hit a.set.now a.t.now c.loop-i.i c.loop-i-test.true (sym c.is_byte.ensures ∙ c.if-is_byte.true)) ∙ c.loop-i.invariant.1
+swapped : (a b : ℕ) → eqb a b ≡ eqb b a
+swapped a b = grind (arith, nat_tests)
 
-pub loop-i-preserved : goal.loop-i-preserved
-loop-i-preserved c =
-    let a = c.args in
-    (omega arith, sym (among_miss a.set.now a.t.now c.loop-i.i c.loop-i-test.true (sym c.is_byte.ensures ∙ c.if-is_byte.false)) ∙ c.loop-i.invariant.1)
+whole : (set t : List ℕ) → length t ≡ 1 → list_any (λ b. eqb b (get_or t 0 0)) set ≡ among set t
+unfolding among
+whole [] t h = refl
+whole (b ∷ set) t h = rw (byte_one t b h, swapped b (get_or t 0 0)) (go (eqb (get_or t 0 0) b) (whole set t h))
+  where
+    go : (p : Bool) {r s : Bool} → r ≡ s → (p || r) ≡ one_of p s
+    go true e = refl
+    go false e = e
 
-pub returns : goal.returns
-returns c = sym (among_none _ _ _ c.loop-i-test.false) ∙ c.loop-i.invariant.1
+none : (set t : List ℕ) → (length t ≡ 1 → ⊥) → false ≡ among set t
+unfolding among
+none [] t h = refl
+none (b ∷ set) t h = rw (byte_other t b h) (none set t h)
+
+pub returns-then-t-eq1 : goal.returns-then-t-eq1
+returns-then-t-eq1 c = c.contains.ensures.value ∙ whole _ _ c.if-t-eq1.true
+
+pub returns-else-t-eq1 : goal.returns-else-t-eq1
+returns-else-t-eq1 c = rw (ne_eqb _ _ c.if-t-eq1.false) (none _ _ c.if-t-eq1.false)

@@ -2,13 +2,10 @@
 -- is; what is left is digits, and those passed are worth less than 10 to their number, so no sum wraps.
 use mathlib.Core.Path.{◌≡◌}
 use mathlib.Core.Bool.{true}
-use Prim.Native.Nat.{◌-◌, ◌^◌, ◌≤◌, ◌<◌}
-use lib.ListN.{length, drop}
+use Prim.Native.Nat.{◌^◌, ◌<◌}
+use lib.ListN.{drop}
 use Rattle.field.specs.Values.{all_digits, value_from, value}
 use Rattle.field.proofs.values.value_of.Given as goal
 
-abbrev pub invariant-loop-i : goal.invariant-loop-i
-invariant-loop-i l = (l.i ≤ length l.t) × (value_from l.v (drop l.i l.t) ≡ value l.t) × (all_digits (drop l.i l.t) ≡ true) × (l.v < 10 ^ l.i)
-
-abbrev pub decreases-loop-i : goal.decreases-loop-i
-decreases-loop-i l = length l.t - l.i
+abbrev pub invariant-loop-b : goal.invariant-loop-b
+invariant-loop-b l = (value_from l.v (drop l.b-index l.t) ≡ value l.t) × (all_digits (drop l.b-index l.t) ≡ true) × (l.v < 10 ^ l.b-index)

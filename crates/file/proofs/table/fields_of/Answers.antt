@@ -5,10 +5,10 @@ use lib.ListN.{get_or-eq_default}
 use Rattle.file.specs.Files.{fields_of, field_counts}
 use Rattle.file.proofs.table.fields_of.Goals as goal
 
-pub returns-then-file-ge14 : goal.returns-then-file-ge14
+pub returns-then-file-lt14 : goal.returns-then-file-lt14
 unfolding fields_of field_counts
-returns-then-file-ge14 c = sym (get_or-eq_default (0 ∷ field_counts) 0 c.if-file-ge14.true)
+returns-then-file-lt14 c = refl
 
-pub returns : goal.returns
+pub returns-else-file-lt14 : goal.returns-else-file-lt14
 unfolding fields_of field_counts
-returns c = refl
+returns-else-file-lt14 c = sym (get_or-eq_default (0 ∷ field_counts) 0 c.if-file-lt14.false)

@@ -4,4 +4,6 @@ use Rattle.checkresults.specs.Results.{check_result}
 use Rattle.slovdrim.proofs.batches.slovdrim_check.Goals as goal
 
 pub returns : goal.returns
-returns c = c.judged.ensures ∙ ap check_result c.check-verdict.ensures
+returns c =
+    let e = rw c.files_of-files.ensures at c.check.ensures in
+    c.judged.ensures ∙ ap check_result e

@@ -4,4 +4,6 @@ use Rattle.saleresults.specs.Results.{sale_result}
 use Rattle.slovdrim.proofs.desk.slovdrim_sale_hinted.Goals as goal
 
 pub returns : goal.returns
-returns c = c.sale_handed.ensures ∙ ap sale_result c.may_sell.ensures
+returns c =
+    let e = rw c.files_of-files.ensures at c.may_sell.ensures in
+    c.sale_handed.ensures ∙ ap sale_result e

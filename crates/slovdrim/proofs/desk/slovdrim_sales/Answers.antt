@@ -4,4 +4,6 @@ use Rattle.saleresults.specs.Results.{sales_result}
 use Rattle.slovdrim.proofs.desk.slovdrim_sales.Goals as goal
 
 pub returns : goal.returns
-returns c = (c.sales_handed.ensures ∙ ap sales_result c.many_sales.ensures.0, c.many_sales.ensures.1)
+returns c =
+    let e = rw c.files_of-files.ensures at c.many_sales.ensures in
+    (c.sales_handed.ensures ∙ ap sales_result e.0, e.1)

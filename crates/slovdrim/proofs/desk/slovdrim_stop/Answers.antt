@@ -4,4 +4,6 @@ use Rattle.saleresults.specs.Results.{stop_result}
 use Rattle.slovdrim.proofs.desk.slovdrim_stop.Goals as goal
 
 pub returns : goal.returns
-returns c = c.named_handed.ensures ∙ ap stop_result c.stop_named-answer.ensures
+returns c =
+    let e = rw c.files_of-files.ensures at c.stop_named.ensures in
+    c.named_handed.ensures ∙ ap stop_result e

@@ -4,4 +4,6 @@ use Rattle.hintresults.specs.Results.{hint_result}
 use Rattle.slovdrim.proofs.hints.slovdrim_order.Goals as goal
 
 pub returns : goal.returns
-returns c = (c.hint_handed.ensures ∙ ap hint_result c.arrange.ensures.0, c.arrange.ensures.1)
+returns c =
+    let e = rw c.files_of-files.ensures at c.arrange.ensures in
+    (c.hint_handed.ensures ∙ ap hint_result e.0, e.1)

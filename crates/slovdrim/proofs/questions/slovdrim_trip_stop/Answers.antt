@@ -4,4 +4,6 @@ use Rattle.tripresults.specs.Results.{stop_result}
 use Rattle.slovdrim.proofs.questions.slovdrim_trip_stop.Goals as goal
 
 pub returns : goal.returns
-returns c = c.stop_handed.ensures ∙ ap stop_result c.trip_stop-answer.ensures
+returns c =
+    let e = rw c.files_of-files.ensures at c.trip_stop.ensures in
+    c.stop_handed.ensures ∙ ap stop_result e

@@ -43,17 +43,23 @@ pub fn text_end(s: &[u8], at: usize) -> usize
     i
 }
 
-// inner: the place past the text's closing quote, where a comma or semicolon stands, or where the text stops if no field ends there.
+// inner: the place past the text's closing quote, where a comma or semicolon stands, or where the text stops if no field ends there. It has a loop of its own,
+// as `text_end` has, since it is the scan's: where the quote was looked at again behind that loop, the scan took a third longer on long texts.
 pub fn text_close(s: &[u8], at: usize) -> usize
     requires { at ≤ length s.now }
     ensures { Reached s.now at (closes (drop at s.now)) result }
 {
-    let end = text_end(s, at);
-    if end < s.len() && s[end] == b'"' {
-        end + 1
-    } else {
-        end
+    let mut i = plain_end(s, at);
+    while i < s.len() {
+        if s[i] != b'"' {
+            return i;
+        }
+        if ends_at(s, i) {
+            return i + 1;
+        }
+        i = plain_end(s, i + 1);
     }
+    i
 }
 
 // inner: whether the text is permitted.

@@ -35,6 +35,7 @@ fn record_end(s: &[u8], at: usize) -> Result<usize, usize>
 }
 
 // What follows a field: a comma at this place, or the end of the record after its last.
+#[inline(always)]
 fn field_end(s: &[u8], at: usize, last: bool) -> Result<usize, usize>
     ensures { (result ≡ ahead_from s.now last at) × EndsNear s.now at result }
 {
@@ -48,7 +49,8 @@ fn field_end(s: &[u8], at: usize, last: bool) -> Result<usize, usize>
     }
 }
 
-// The field that is due at this place, and what follows it.
+// The field that is due at this place, and what follows it. It is laid into the loop over a record's fields and behind it.
+#[inline(always)]
 fn field_ahead(s: &[u8], at: usize, last: bool) -> Result<usize, usize>
     requires { at ≤ length s.now }
     ensures { (result ≡ ahead_at s.now at last) × AheadNear s.now at result }
@@ -60,16 +62,16 @@ fn field_ahead(s: &[u8], at: usize, last: bool) -> Result<usize, usize>
     field_end(s, close, last)
 }
 
-// The record that starts at this place, field by field.
+// The record that starts at this place, field by field. The last one stands apart, so that the loop over the others asks of none whether it is the last.
 fn record_ahead(s: &[u8], start: usize, n: usize) -> Result<usize, usize>
     requires { (start < length s.now) × (1 ≤ n) }
     ensures { RecordAhead n s.now start result }
 {
     let mut at = start;
-    for field in 1..=n {
-        at = field_ahead(s, at, field == n)?;
+    for field in 1..n {
+        at = field_ahead(s, at, false)?;
     }
-    Ok(at)
+    field_ahead(s, at, true)
 }
 
 // A reading that gets no further than this place.

@@ -22,6 +22,17 @@ use Rattle.alone.specs.Sound.{SweptFile, SweptFiles}
 pub sound_file : (b : Batch) (file n : ℕ) (s : List ℕ) → s ≡ file_in b file → n ≡ fields_of file → length s ≤ longest → SoundFrom file n s 0 → SweptFile file (file_in b file)
 sound_file b file n s e z h w = rw (← e) (record { short = h; sound = rw z at w })
 
+-- each file behind this one is sound; and so is each behind the one before it, if it is too
+abbrev pub SoundBehind : Batch → ℕ → Type 0
+SoundBehind b file = (k : ℕ) → file < k → k ≤ 13 → SweptFile k (file_in b k)
+
+pub sound_more : (b : Batch) (file before : ℕ) → file ≡ before + 1 → SoundBehind b file → SweptFile file (file_in b file) → SoundBehind b before
+sound_more b file before e w f k h l = go (ℕ_discrete k file)
+  where
+    go : Dec (k ≡ file) → SweptFile k (file_in b k)
+    go (yes z) = rw z f
+    go (no z) = w k (omega arith) l
+
 -- files that have no fault one by one have none
 over_none : (fault : ℕ → Numbered) (file count : ℕ) → ((i : ℕ) → file ≤ i → i < file + count → fault i ≡ answered []) → over_files fault file count ≡ answered []
 unfolding over_files

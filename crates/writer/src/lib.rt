@@ -11,12 +11,15 @@ ghost use Rattle.file.specs.Writing.{has_field, WriteIs};
 use file::{Refusal, fields_of};
 use quotes::permitted;
 
-// Lays t over d from `at` on: all that touches the buffer.
+// Lays t over d from `at` on: all that touches the buffer. Byte by byte, since the library's copy of a slice becomes a call of the C library's `memmove`,
+// and the archive needs nothing of it but `memset`.
 fn copy(d: &mut [u8], at: usize, t: &[u8])
     requires { at + length t.now ≤ length d.old }
     ensures { d.new ≡ splice d.old at t.now }
 {
-    d[at..at + t.len()].copy_from_slice(t);
+    for i in 0..t.len() {
+        d[at + i] = t[i];
+    }
 }
 
 // A field at the front of d.

@@ -34,44 +34,35 @@ fn record_end(s: &[u8], at: usize) -> Result<usize, usize>
     Ok(at + 3)
 }
 
-// What follows a field: a comma at this place, or the end of the record after its last.
-#[inline(always)]
-fn field_end(s: &[u8], at: usize, last: bool) -> Result<usize, usize>
-    ensures { (result ≡ ahead_from s.now last at) × EndsNear s.now at result }
-{
-    if last {
-        return record_end(s, at);
-    }
-    if stands(s, at, b',') {
-        Ok(at + 1)
-    } else {
-        Err(at)
-    }
-}
-
-// The field that is due at this place, and what follows it. It is laid into the loop over a record's fields and behind it.
-#[inline(always)]
-fn field_ahead(s: &[u8], at: usize, last: bool) -> Result<usize, usize>
+// The record's last field, which is due at this place, and what follows it.
+fn last_field(s: &[u8], at: usize) -> Result<usize, usize>
     requires { at ≤ length s.now }
-    ensures { (result ≡ ahead_at s.now at last) × AheadNear s.now at result }
+    ensures { (result ≡ ahead_at s.now at true) × AheadNear s.now at result }
 {
     if !stands(s, at, b'"') {
         return Err(at);
     }
     let close = text_close(s, at + 1);
-    field_end(s, close, last)
+    record_end(s, close)
 }
 
-// The record that starts at this place, field by field. The last one stands apart, so that the loop over the others asks of none whether it is the last.
+// The record that starts at this place: its fields but the last, each with its comma, and then the last. A refusal leaves the loop at once.
 fn record_ahead(s: &[u8], start: usize, n: usize) -> Result<usize, usize>
     requires { (start < length s.now) × (1 ≤ n) }
     ensures { RecordAhead n s.now start result }
 {
     let mut at = start;
     for field in 1..n {
-        at = field_ahead(s, at, false)?;
+        if !stands(s, at, b'"') {
+            return Err(at);
+        }
+        let close = text_close(s, at + 1);
+        if !stands(s, close, b',') {
+            return Err(close);
+        }
+        at = close + 1;
     }
-    field_ahead(s, at, true)
+    last_field(s, at)
 }
 
 // A reading that gets no further than this place.

@@ -14,7 +14,7 @@ use filestages::check_stages;
 use sweep::is_sound;
 use thirteen::{Files, file_of};
 
-// Whether the files 2-13 have none of 1 to 6, each read once, the last first: most batches end in small files, and a fault there is then seen before the large ones are read.
+// Whether the files 2-13 have none of 1 to 6, each read once, the last first: a fault in a late file is seen before the files ahead of it are read.
 fn are_sound(files: &Files) -> bool
     ensures { result ≡ true → SweptFiles (batch_of files.now) }
 {

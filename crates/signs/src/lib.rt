@@ -6,7 +6,7 @@ ghost use Rattle.std.specs.Prelude.{◌≡◌};
 ghost use Rattle.signs.specs.Signs.{is_holiday, is_day_sign, is_workday, is_restday, sign_fits};
 
 // inner: any list is taken, in any order, with repeats and numbers past the calendar. It is looked through by a loop of its own: the library's `contains`
-// took up to 1.8 times as long.
+// took 1.3 to 1.6 times as long on long lists.
 pub fn is_holiday(number: u64, holidays: &[u64]) -> bool
     ensures { result ≡ is_holiday holidays.now number }
 {
